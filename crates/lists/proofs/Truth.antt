@@ -1,0 +1,33 @@
+-- Tests that are computed, taken apart and put together. Assumes nothing.
+use mathlib.Core.Path.{_≡_, refl, sym, subst}
+use mathlib.Core.Bool.{Bool, true, false, not, _&&_, _||_}
+use mathlib.Core.Logic.{_⊎_, inl, inr}
+use lib.Dec.{T}
+
+pub left : (a b : Bool) → T (a && b) → T a
+left true b t = tt
+left false b t = t
+
+pub right : (a b : Bool) → T (a && b) → T b
+right true b t = t
+right false b t = absurd t
+
+pub both : (a b : Bool) → T a → T b → T (a && b)
+both true b p q = q
+both false b p q = absurd p
+
+pub either : (a b : Bool) → T (a || b) → T a ⊎ T b
+either true b t = inl tt
+either false b t = inr t
+
+-- a test that holds is true, and one that does not is false
+pub holds : (a : Bool) → T a → a ≡ true
+holds true t = refl
+holds false t = absurd t
+
+pub fails : (a : Bool) → T (not a) → a ≡ false
+fails true t = absurd t
+fails false t = refl
+
+pub held : (a : Bool) → a ≡ true → T a
+held a e = subst T (sym e) tt

@@ -1,0 +1,1 @@
+// Lists: definitions and laws that no single subject owns; no code. Every crate above may cite them.
