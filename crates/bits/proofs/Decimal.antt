@@ -1,0 +1,125 @@
+-- The laws of binary coded decimal, over the number of digits: each direction undoes the other. Assumes nothing.
+use Prim.Native.Nat.{ℕ, zero, suc, _+_, _-_, _*_, _/_, _%_, _^_, _≤_, _<_}
+use mathlib.Core.Path.{_≡_, ap, sym, _∙_, subst}
+use mathlib.Core.Bool.{true, _&&_}
+use native.Mathlib.Nat.{pow-suc, pow-le-pow-right, div-one}
+use native.Mathlib.Omega.{arith}
+use lib.Pow.{shr-shr}
+use lib.Dec.{T, leb, leb→le, le→leb, lit<, lit≤}
+use Rattle.bits.specs.Decimal.{decimal, digits, coded}
+use Rattle.lists.proofs.Truth.{left, right, both}
+
+-- any digits: room for the sums
+pub decimal-room : (n v : ℕ) → decimal n v + 2 ≤ 2 * 10 ^ n
+unfolding decimal
+decimal-room zero v = lit≤ tt
+decimal-room (suc n) v = rw pow-suc (omega (arith, decimal-room n (v / 16)))
+
+pub decimal-lt : (n v : ℕ) → T (digits n v) → decimal n v < 10 ^ n
+unfolding decimal digits
+decimal-lt zero v t = lit< tt
+decimal-lt (suc n) v t =
+    rw pow-suc
+    (omega (arith, decimal-lt n (v / 16) (left (digits n (v / 16)) (leb (v % 16) 9) t), leb→le (v % 16) 9 (right (digits n (v / 16)) (leb (v % 16) 9) t)))
+
+pub coded-lt : (n x : ℕ) → coded n x < 16 ^ n
+unfolding coded
+coded-lt zero x = lit< tt
+coded-lt (suc n) x = rw pow-suc (omega (arith, coded-lt n (x / 10)))
+
+low : (n x : ℕ) → coded (suc n) x % 16 ≡ x % 10
+unfolding coded
+low n x = omega arith
+
+high : (n x : ℕ) → coded (suc n) x / 16 ≡ coded n (x / 10)
+unfolding coded
+high n x = omega arith
+
+pub coded-digits : (n x : ℕ) → T (digits n (coded n x))
+unfolding digits
+coded-digits zero x = tt
+coded-digits (suc n) x =
+    both (digits n (coded (suc n) x / 16)) (leb (coded (suc n) x % 16) 9)
+    (subst (λ (z : ℕ). T (digits n z)) (sym (high n x)) (coded-digits n (x / 10)))
+    (le→leb (coded (suc n) x % 16) 9 (omega (arith, low n x)))
+
+pub decimal-coded : (n x : ℕ) → x < 10 ^ n → decimal n (coded n x) ≡ x
+unfolding decimal
+decimal-coded zero x h = omega arith
+decimal-coded (suc n) x h =
+    let p : 10 ^ suc n ≡ 10 ^ n * 10 = pow-suc 10 n in
+    let e : decimal n (coded n (x / 10)) ≡ x / 10 = decimal-coded n (x / 10) (omega (arith, p)) in
+    let f : decimal n (coded (suc n) x / 16) ≡ decimal n (coded n (x / 10)) = ap (decimal n) (high n x) in
+    omega (arith, e, f, low n x)
+
+pub coded-decimal : (n v : ℕ) → v < 16 ^ n → T (digits n v) → coded n (decimal n v) ≡ v
+unfolding decimal digits coded
+coded-decimal zero v h t = omega arith
+coded-decimal (suc n) v h t =
+    let p : 16 ^ suc n ≡ 16 ^ n * 16 = pow-suc 16 n in
+    let d : v % 16 ≤ 9 = leb→le (v % 16) 9 (right (digits n (v / 16)) (leb (v % 16) 9) t) in
+    let q : (decimal n (v / 16) * 10 + v % 16) / 10 ≡ decimal n (v / 16) = omega arith in
+    let r : (decimal n (v / 16) * 10 + v % 16) % 10 ≡ v % 16 = omega arith in
+    let e : coded n (decimal n (v / 16)) ≡ v / 16 = coded-decimal n (v / 16) (omega (arith, p)) (left (digits n (v / 16)) (leb (v % 16) 9) t) in
+    let f : coded n ((decimal n (v / 16) * 10 + v % 16) / 10) ≡ coded n (decimal n (v / 16)) = ap (coded n) q in
+    omega (arith, e, f, r)
+
+-- ## the steps of the loops, which go down from the most significant digit
+
+-- the code above digit l, from the code above the digit after it
+above : (c l : ℕ) → 0 < l → c / 2 ^ (4 * (l - 1)) / 16 ≡ c / 2 ^ (4 * l)
+above c l h = shr-shr c (4 * (l - 1)) 4 ∙ ap (λ (k : ℕ). c / 2 ^ k) (omega arith)
+
+whole : (c : ℕ) → c / 2 ^ (4 * 0) ≡ c
+whole c = div-one c
+
+module _ (n c l : ℕ) (h : 0 < l) (q : l ≤ n) where
+  next : n - (l - 1) ≡ suc (n - l)
+  next = omega arith
+
+  pub decimal-down : decimal (n - l) (c / 2 ^ (4 * l)) * 10 + c / 2 ^ (4 * (l - 1)) % 16 ≡ decimal (n - (l - 1)) (c / 2 ^ (4 * (l - 1)))
+  unfolding decimal
+  decimal-down =
+      let x : ℕ = c / 2 ^ (4 * (l - 1)) in
+      ap (λ (z : ℕ). decimal (n - l) z * 10 + x % 16) (sym (above c l h)) ∙ ap (λ (m : ℕ). decimal m x) (sym next)
+
+  pub digits-down : digits (n - l) (c / 2 ^ (4 * l)) && leb (c / 2 ^ (4 * (l - 1)) % 16) 9 ≡ digits (n - (l - 1)) (c / 2 ^ (4 * (l - 1)))
+  unfolding digits
+  digits-down =
+      let x : ℕ = c / 2 ^ (4 * (l - 1)) in
+      ap (λ (z : ℕ). digits (n - l) z && leb (x % 16) 9) (sym (above c l h)) ∙ ap (λ (m : ℕ). digits m x) (sym next)
+
+-- before the first digit
+pub decimal-none : (n l c : ℕ) → l ≡ n → 0 ≡ decimal (n - l) c
+unfolding decimal
+decimal-none n l c e = let z : n - l ≡ 0 = omega arith in sym (ap (λ (m : ℕ). decimal m c) z)
+
+pub digits-none : (n l c : ℕ) → l ≡ n → true ≡ digits (n - l) c
+unfolding digits
+digits-none n l c e = let z : n - l ≡ 0 = omega arith in sym (ap (λ (m : ℕ). digits m c) z)
+
+-- after the last
+pub decimal-whole : (n l c : ℕ) → l ≡ 0 → decimal (n - l) (c / 2 ^ (4 * l)) ≡ decimal n c
+decimal-whole n l c e = let m : n - l ≡ n = omega arith in
+    ap (λ (k : ℕ). decimal k (c / 2 ^ (4 * l))) m ∙ ap (λ (k : ℕ). decimal n (c / 2 ^ (4 * k))) e ∙ ap (decimal n) (whole c)
+
+pub digits-whole : (n l c : ℕ) → l ≡ 0 → digits (n - l) (c / 2 ^ (4 * l)) ≡ digits n c
+digits-whole n l c e = let m : n - l ≡ n = omega arith in
+    ap (λ (k : ℕ). digits k (c / 2 ^ (4 * l))) m ∙ ap (λ (k : ℕ). digits n (c / 2 ^ (4 * k))) e ∙ ap (digits n) (whole c)
+
+-- ## the steps of the recursion
+
+pub coded-none : (n x : ℕ) → n ≡ 0 → 0 ≡ coded n x
+unfolding coded
+coded-none n x e = sym (ap (λ (z : ℕ). coded z x) e)
+
+pub coded-step : (n x : ℕ) → 0 < n → coded n x ≡ coded (n - 1) (x / 10) * 16 + x % 10
+unfolding coded
+coded-step n x h = let e : n ≡ suc (n - 1) = omega arith in ap (λ (z : ℕ). coded z x) e
+
+-- room for 13 digits before the last
+pub decimal-small : (n c : ℕ) → n ≤ 13 → decimal n c < 2 * 10 ^ 13
+decimal-small n c h = omega (arith, decimal-room n c, pow-le-pow-right {n = 10} (lit< tt) {i = n} {j = 13} h)
+
+pub coded-small : (n x : ℕ) → n ≤ 13 → coded n x < 16 ^ 13
+coded-small n x h = omega (arith, coded-lt n x, pow-le-pow-right {n = 16} (lit< tt) {i = n} {j = 13} h)

@@ -1,0 +1,4 @@
+pub mod Bits
+pub mod Decimal
+pub mod Reading
+pub mod Writing

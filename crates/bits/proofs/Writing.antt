@@ -1,0 +1,134 @@
+-- The steps of the leaf that writes a field, over any first bit and width. Assumes nothing.
+use Prim.Native.Nat.{ℕ, _+_, _-_, _*_, _/_, _%_, _^_, _≤_, _<_}
+use mathlib.Core.Path.{_≡_, refl, ap, sym, _∙_, subst}
+use mathlib.Core.List.{List}
+use mathlib.Core.Logic.{_⊎_, inl, inr, ⊎-elim}
+use native.Mathlib.Nat.{lt-of-lt-of-le, mod-lt, not-suc-le-zero}
+use native.Mathlib.Omega.{arith}
+use lib.ListN.{length, getD, set, length-set}
+use lib.Seq.{ext-getD, getD-set-same, getD-set-other}
+use lib.Arith.{digits-lt}
+use lib.Pow.{pow-mono, pow-pos, pow-add, shr-lt}
+use borrow.Author.Count.{below-more}
+use Rattle.bits.specs.Bits.{bitAt, num, put, getBits, setBits}
+use Rattle.bits.proofs.Bits.{num-add, num-mid, num-high, num-low, byte-num, bitAt-lt, put-lt, num-put, num-put-left, num-put-right, length-setBits, getD-bytesOf}
+use Rattle.bits.specs.Steps.{Stored, mix}
+use Rattle.lists.proofs.Order.{le-or-lt}
+
+pub stored-none : (a n x : ℕ) (b : List ℕ) → Stored a n x 0 b b
+stored-none a n x b = record { same = refl; inside = λ k p q. absurd (not-suc-le-zero p); outside = λ i p. refl }
+
+pub stored-more : (a n x m v : ℕ) (b c : List ℕ) → v ≡ x / 2 ^ (8 * (n - 1 - m)) % 256 → Stored a n x m b c → Stored a n x (m + 1) b (set c (a + m) v)
+stored-more a n x m v b c e o =
+    record {
+      same = length-set c (a + m) v ∙ o .same;
+      inside =
+          below-more (λ (k : ℕ). a + k < length b → getD (set c (a + m) v) (a + k) 0 ≡ x / 2 ^ (8 * (n - 1 - k)) % 256) m
+          (λ k p q. getD-set-other c (a + m) (a + k) v 0 (λ z. omega (arith, z)) ∙ o .inside k p q)
+          (λ q. getD-set-same c (a + m) v 0 (omega (arith, o .same)) ∙ e);
+      outside = λ i p.
+          getD-set-other c (a + m) i v 0 (λ z. ⊎-elim (λ l. omega (arith, l, z)) (λ l. omega (arith, l, z)) p)
+          ∙ o .outside i (⊎-elim (λ l. inl l) (λ l. inr (omega arith)) p);
+    }
+
+-- ## the window
+
+pub record Mixed (x t w v y p q : ℕ) : Type 0 where
+  pub one : x / y * p < 2 ^ 64
+  pub two : x / y * p + v % p < 2 ^ 64
+  pub three : (x / y * p + v % p) * q < 2 ^ 64
+  pub four : (x / y * p + v % p) * q + x % q < 2 ^ 64
+  pub right : (x / y * p + v % p) * q + x % q ≡ mix x t w v
+
+mixed-at : (x t w v : ℕ) → x < 2 ^ 64 → t + w ≤ 63 → Mixed x t w v (2 ^ (t + w)) (2 ^ w) (2 ^ t)
+unfolding mix
+mixed-at x t w v hx h =
+    let c : ℕ = 64 - (t + w) in
+    let e : c + (t + w) ≡ 64 = omega arith in
+    let top : x / 2 ^ (t + w) < 2 ^ c = shr-lt {n = x} c (t + w) (subst (λ (z : ℕ). x < 2 ^ z) (sym e) hx) in
+    let r : v % 2 ^ w < 2 ^ w = mod-lt v (pow-pos w) in
+    let lo : x % 2 ^ t < 2 ^ t = mod-lt x (pow-pos t) in
+    let a : x / 2 ^ (t + w) * 2 ^ w + v % 2 ^ w < 2 ^ (c + w) = subst (λ (z : ℕ). x / 2 ^ (t + w) * 2 ^ w + v % 2 ^ w < z) (sym (pow-add 2 c w)) (digits-lt top r) in
+    let e' : c + w + t ≡ 64 = omega arith in
+    let all : (x / 2 ^ (t + w) * 2 ^ w + v % 2 ^ w) * 2 ^ t + x % 2 ^ t < 2 ^ (c + w + t) =
+    subst (λ (z : ℕ). (x / 2 ^ (t + w) * 2 ^ w + v % 2 ^ w) * 2 ^ t + x % 2 ^ t < z) (sym (pow-add 2 (c + w) t)) (digits-lt a lo) in
+    let all' : (x / 2 ^ (t + w) * 2 ^ w + v % 2 ^ w) * 2 ^ t + x % 2 ^ t < 2 ^ 64 =
+    subst (λ (z : ℕ). (x / 2 ^ (t + w) * 2 ^ w + v % 2 ^ w) * 2 ^ t + x % 2 ^ t < 2 ^ z) e' all in
+    let a' : x / 2 ^ (t + w) * 2 ^ w + v % 2 ^ w < 2 ^ 64 = lt-of-lt-of-le a (pow-mono {i = c + w} {j = 64} (omega arith)) in
+    record { one = omega (arith, a'); two = a'; three = omega (arith, all'); four = all'; right = refl }
+
+pub mixed : (x t w v y p q : ℕ) → x < 2 ^ 64 → t + w ≤ 63 → y ≡ 2 ^ (t + w) → p ≡ 2 ^ w → q ≡ 2 ^ t → Mixed x t w v y p q
+mixed x t w v y p q hx h ey ep eq =
+    subst (λ (z : ℕ). Mixed x t w v z p q) (sym ey)
+    (subst (λ (z : ℕ). Mixed x t w v (2 ^ (t + w)) z q) (sym ep)
+    (subst (λ (z : ℕ). Mixed x t w v (2 ^ (t + w)) (2 ^ w) z) (sym eq) (mixed-at x t w v hx h)))
+
+-- the mixed window is the window of the bits after the put
+pub mix-num : (f : ℕ → ℕ) → ((i : ℕ) → f i < 2) → (o d w t v : ℕ)
+    → mix (num f o (d + w + t)) t w v ≡ num (put (o + d) w v f) o (d + w + t)
+unfolding mix
+mix-num f h o d w t v =
+    let g : ℕ → ℕ = put (o + d) w v f in
+    let x : ℕ = num f o (d + w + t) in
+    let e : d + w + t ≡ d + (t + w) = omega arith in
+    let p : o + (d + w) ≡ o + d + w = omega arith in
+    let top : x / 2 ^ (t + w) ≡ num g o d =
+    ap (λ (z : ℕ). num f o z / 2 ^ (t + w)) e ∙ num-high f h o d (t + w) ∙ sym (num-put-left (o + d) w v f o d (omega arith)) in
+    let mid : v % 2 ^ w ≡ num g (o + d) w = sym (num-put (o + d) w v f) in
+    let lo : x % 2 ^ t ≡ num g (o + (d + w)) t = num-low f h o (d + w) t ∙ sym (num-put-right (o + d) w v f (o + (d + w)) t (omega arith)) in
+    ap (λ (z : ℕ). (z * 2 ^ w + v % 2 ^ w) * 2 ^ t + x % 2 ^ t) top
+    ∙ ap (λ (z : ℕ). (num g o d * 2 ^ w + z) * 2 ^ t + x % 2 ^ t) mid
+    ∙ ap (λ (z : ℕ). (num g o d * 2 ^ w + num g (o + d) w) * 2 ^ t + z) lo
+    ∙ ap (λ (z : ℕ). z * 2 ^ t + num g (o + (d + w)) t) (sym (num-add g o d w))
+    ∙ sym (num-add g o (d + w) t)
+
+-- ## the whole
+
+pub all-stored : (s w v n : ℕ) (b c : List ℕ) → ((k : ℕ) → getD b k 0 < 256) → s % 8 + w ≤ 8 * n → 8 * n < s % 8 + w + 8
+    → Stored (s / 8) n (mix (getBits (8 * (s / 8)) (8 * n) b) (n * 8 - (s % 8 + w)) w v) n b c → c ≡ setBits s w v b
+unfolding getBits setBits
+all-stored s w v n b c h p p' o =
+    let a : ℕ = s / 8 in
+    let t : ℕ = n * 8 - (s % 8 + w) in
+    let f : ℕ → ℕ = bitAt b in
+    let g : ℕ → ℕ = put s w v f in
+    let es : 8 * a + s % 8 ≡ s = omega arith in
+    let en : 8 * n ≡ s % 8 + w + t = omega arith in
+    let x : ℕ = mix (num f (8 * a) (8 * n)) t w v in
+    let ex : x ≡ num g (8 * a) (8 * n) =
+    ap (λ (z : ℕ). mix (num f (8 * a) z) t w v) en
+    ∙ mix-num f (bitAt-lt b) (8 * a) (s % 8) w t v
+    ∙ ap (λ (z : ℕ). num (put z w v f) (8 * a) (s % 8 + w + t)) es
+    ∙ ap (num g (8 * a)) (sym en) in
+    ext-getD 0 c (setBits s w v b) (o .same ∙ sym (length-setBits s w v b))
+    (λ i q.
+    let q' : i < length b = omega (arith, o .same) in
+    ⊎-elim
+    (λ ge.
+    ⊎-elim
+    (λ past. o .outside i (inr past) ∙ sym (byte-num b i (h i)) ∙ sym (num-put-right s w v f (8 * i) 8 (omega arith)))
+    (λ lt.
+    let k : ℕ = i - a in
+    let ei : a + k ≡ i = omega arith in
+    let m : ℕ = 8 * (n - 1 - k) in
+    let em : 8 * n ≡ 8 * k + 8 + m = omega arith in
+    let eo : 8 * a + 8 * k ≡ 8 * i = omega arith in
+    ap (λ (z : ℕ). getD c z 0) (sym ei) ∙ o .inside k (omega arith) (omega arith)
+    ∙ ap (λ (z : ℕ). z / 2 ^ m % 256) ex
+    ∙ ap (λ (z : ℕ). num g (8 * a) z / 2 ^ m % 2 ^ 8) em
+    ∙ num-mid g (put-lt s w v f (bitAt-lt b)) (8 * a) (8 * k) 8 m
+    ∙ ap (λ (z : ℕ). num g z 8) eo)
+    (le-or-lt (a + n) i))
+    (λ lt. o .outside i (inl lt) ∙ sym (byte-num b i (h i)) ∙ sym (num-put-left s w v f (8 * i) 8 (omega arith)))
+    (le-or-lt a i)
+    ∙ sym (getD-bytesOf g (length b) i q'))
+
+-- what the code computes
+pub done : (s w v m x : ℕ) (b c : List ℕ) → ((k : ℕ) → getD b k 0 < 256) → w ≤ 56
+    → x ≡ getBits (8 * (s / 8)) (8 * ((s % 8 + w + 7) / 8)) b
+    → m ≡ mix x ((s % 8 + w + 7) / 8 * 8 - (s % 8 + w)) w v
+    → Stored (s / 8) ((s % 8 + w + 7) / 8) m ((s % 8 + w + 7) / 8) b c → c ≡ setBits s w v b
+done s w v m x b c h q ex em o =
+    let n : ℕ = (s % 8 + w + 7) / 8 in
+    let e : m ≡ mix (getBits (8 * (s / 8)) (8 * n) b) (n * 8 - (s % 8 + w)) w v = em ∙ ap (λ (z : ℕ). mix z (n * 8 - (s % 8 + w)) w v) ex in
+    all-stored s w v n b c h (omega arith) (omega arith) (subst (λ (z : ℕ). Stored (s / 8) n z n b c) e o)

@@ -1,0 +1,66 @@
+-- The loop over the bytes of a window: the invariant says the number made so far. Assumes nothing.
+use mathlib.Core.Path.{_≡_, sym, _∙_, ap}
+use Prim.Native.Nat.{ℕ, _≤_, _*_, _-_}
+use denote.Ref.{now}
+use native.Mathlib.Omega.{arith}
+use borrow.Author.Needs.{needs}
+use Rattle.bits.specs.Bits.{getBits}
+use Rattle.bits.proofs.Reading.{more, within, none}
+use Rattle.bits.proofs.window.Statement.{statement}
+use Rattle.bits.proofs.window.Tie as tie
+
+abbrev Inv-loop : tie.InvT-loop
+Inv-loop bytes from count x₀ k₀ x k = (k ≤ count) × (x ≡ getBits (8 * from) (8 * k) bytes)
+
+abbrev μ-loop : tie.MeasureT-loop
+μ-loop bytes from count x₀ k₀ x k = count - k
+
+loop-holds : tie.Need-loop-holds Inv-loop μ-loop
+loop-holds c = (search needs, sym (none (8 * c .before .args .from) (now (c .before .args .bytes))))
+
+mul-x : tie.Need-mul-x Inv-loop μ-loop
+mul-x c = let l = c .before in let a = l .before .before .args in omega (arith, within 56 (8 * a .from) (8 * l .loop .k) (now (a .bytes)) (omega arith))
+
+add-byte-at : tie.Need-add-byte-at Inv-loop μ-loop
+add-byte-at c = search needs
+
+byte-at-requires : tie.Need-byte-at-requires Inv-loop μ-loop
+byte-at-requires c κs = search needs
+
+add-x : tie.Need-add-x Inv-loop μ-loop
+add-x c = let l = c .before .before in let a = l .before .before .args in omega (arith, within 56 (8 * a .from) (8 * l .loop .k) (now (a .bytes)) (omega arith))
+
+add-k : tie.Need-add-k Inv-loop μ-loop
+add-k c = search needs
+
+loop-less : tie.Need-loop-less Inv-loop μ-loop
+loop-less c = search needs
+
+loop-again : tie.Need-loop-again Inv-loop μ-loop
+loop-again c =
+    let l = c .before .before in
+    let a = l .before .before .args in
+    (search needs, omega (arith, more (a .from) (l .loop .k) (now (a .bytes)) (omega arith)))
+
+returns : tie.Need-returns Inv-loop μ-loop
+returns c =
+    let l = c .before in
+    let a = l .before .before .args in
+    let e : l .loop .k ≡ a .count = omega arith in
+    l .loop .inv .1 ∙ ap (λ (z : ℕ). getBits (8 * a .from) (8 * z) (now (a .bytes))) e
+
+pub window-spec : {M : Type 1} → statement M
+window-spec =
+    tie.close
+    (tie.spec
+    Inv-loop
+    μ-loop
+    loop-holds
+    mul-x
+    add-byte-at
+    byte-at-requires
+    add-x
+    add-k
+    loop-less
+    loop-again
+    returns)

@@ -1,0 +1,158 @@
+// Bit fields of a run of bytes, read and written, and binary coded decimal. 01: "The record", words and bits.
+// Bits past the last byte read as 0 and are not written, so no caller has to know the length first.
+ghost use mathlib.Core.Path.{_≡_};
+ghost use Prim.Native.Nat.{_+_, _-_, _*_, _/_, _%_, _^_, _≤_, _<_};
+ghost use lib.ListN.{getD, set};
+ghost use Rattle.bits.specs.Bits.{getBits, setBits};
+ghost use Rattle.bits.specs.Decimal.{decimal, digits, coded};
+ghost use Rattle.bits.specs.Steps.{mix, Stored};
+
+fn wide(byte: u8) -> u64
+    ensures { λ r. ⌜ (r ≡ byte) × (r < 256) ⌝ }
+{
+    byte as u64
+}
+
+fn narrow(x: u64) -> u8
+    ensures { λ r. ⌜ r ≡ x % 256 ⌝ }
+{
+    (x % 256) as u8
+}
+
+// 2 to the power k.
+pub fn two_to(k: usize) -> u64
+    requires { ⌜ k < 64 ⌝ }
+    ensures { λ r. ⌜ (r ≡ 2 ^ k) × (0 < r) ⌝ }
+{
+    1u64 << k
+}
+
+// Byte i, or 0 past the end.
+fn byte_at(bytes: &[u8], i: usize) -> u64
+    ensures { λ r. ⌜ (r ≡ getD (now (bytes .entry)) i 0) × (r < 256) ⌝ }
+{
+    if i < bytes.len() {
+        return wide(bytes[i]);
+    }
+    0
+}
+
+// The number that `count` bytes from `from` on make, high byte first.
+fn window(bytes: &[u8], from: usize, count: usize) -> u64
+    requires { ⌜ (from < 65536) × (count ≤ 8) ⌝ }
+    ensures { λ r. ⌜ r ≡ getBits (8 * from) (8 * count) (now (bytes .entry)) ⌝ }
+{
+    let mut x: u64 = 0;
+    let mut k: usize = 0;
+    while k < count {
+        x = x * 256 + byte_at(bytes, from + k);
+        k += 1;
+    }
+    x
+}
+
+// The field of `width` bits from bit `start` on.
+pub fn read_bits(bytes: &[u8], start: usize, width: usize) -> u64
+    requires { ⌜ (start < 65536) × (width ≤ 56) ⌝ }
+    ensures { λ r. ⌜ (r ≡ getBits start width (now (bytes .entry))) × (r < 2 ^ width) ⌝ }
+{
+    let from = start / 8;
+    let skip = start % 8;
+    let count = (skip + width + 7) / 8;
+    let after = count * 8 - (skip + width);
+    window(bytes, from, count) / two_to(after) % two_to(width)
+}
+
+// Byte k of the n that make up x, high byte first.
+fn byte_of(x: u64, n: usize, k: usize) -> u8
+    requires { ⌜ (k < n) × (n ≤ 8) ⌝ }
+    ensures { λ r. ⌜ r ≡ x / 2 ^ (8 * (n - 1 - k)) % 256 ⌝ }
+{
+    narrow(x / two_to(8 * (n - 1 - k)))
+}
+
+// Byte i, if there is one, becomes `byte`.
+fn set_byte(bytes: &mut [u8], i: usize, byte: u8)
+    ensures { λ _. ⌜ now (bytes .exit) ≡ set (now (bytes .entry)) i byte ⌝ }
+{
+    if i < bytes.len() {
+        bytes[i] = byte;
+    }
+}
+
+// The n bytes from `from` on become those that make up x; what lies past the end is dropped.
+fn store(bytes: &mut [u8], from: usize, n: usize, x: u64)
+    requires { ⌜ (from < 65536) × (n ≤ 8) ⌝ }
+    ensures { λ _. ⌜ Stored from n x n (now (bytes .entry)) (now (bytes .exit)) ⌝ }
+{
+    let mut k: usize = 0;
+    while k < n {
+        set_byte(bytes, from + k, byte_of(x, n, k));
+        k += 1;
+    }
+}
+
+// The window with its field, of which `after` bits follow, replaced.
+fn mixed(old: u64, after: usize, width: usize, value: u64) -> u64
+    requires { ⌜ (width ≤ 56) × (after ≤ 7) ⌝ }
+    ensures { λ r. ⌜ r ≡ mix old after width value ⌝ }
+{
+    let p = two_to(width);
+    let t = two_to(after);
+    let high = old / two_to(after + width);
+    (high * p + value % p) * t + old % t
+}
+
+// The field of `width` bits from bit `start` on becomes the lowest bits of `value`; every other bit stays.
+pub fn write_bits(bytes: &mut [u8], start: usize, width: usize, value: u64)
+    requires { ⌜ (start < 65536) × (width ≤ 56) ⌝ }
+    ensures { λ _. ⌜ now (bytes .exit) ≡ setBits start width value (now (bytes .entry)) ⌝ }
+{
+    let from = start / 8;
+    let skip = start % 8;
+    let count = (skip + width + 7) / 8;
+    let after = count * 8 - (skip + width);
+    let old = window(bytes, from, count);
+    let new = mixed(old, after, width, value);
+    store(bytes, from, count, new);
+}
+
+// The number that the last `count` digits of `code` say.
+pub fn decimal_value(count: usize, code: u64) -> u64
+    requires { ⌜ count ≤ 14 ⌝ }
+    ensures { λ r. ⌜ r ≡ decimal count code ⌝ }
+{
+    let mut value: u64 = 0;
+    let mut left = count;
+    while 0 < left {
+        left -= 1;
+        value = value * 10 + code / two_to(4 * left) % 16;
+    }
+    value
+}
+
+// Whether each of the last `count` digits of `code` is at most 9.
+pub fn decimal_digits(count: usize, code: u64) -> bool
+    requires { ⌜ count ≤ 14 ⌝ }
+    ensures { λ r. ⌜ r ≡ digits count code ⌝ }
+{
+    let mut good = true;
+    let mut left = count;
+    while 0 < left {
+        left -= 1;
+        let digit = code / two_to(4 * left) % 16;
+        good = good & (digit <= 9);
+    }
+    good
+}
+
+// The code of the last `count` decimal digits of `value`.
+pub fn decimal_code(count: u64, value: u64) -> u64
+    requires { ⌜ count ≤ 14 ⌝ }
+    ensures { λ r. ⌜ r ≡ coded count value ⌝ }
+{
+    if count == 0 {
+        return 0;
+    }
+    decimal_code(count - 1, value / 10) * 16 + value % 10
+}
