@@ -1,0 +1,80 @@
+-- One field of a header, in the paper's own terms: words and bits counted from 1, bit 1 the most significant.
+-- 01: the table of words under "The record".
+use Prim.Native.Nat.{ℕ, _+_, _-_, _*_, _/_, _%_, _^_, _≤_, _<_}
+use mathlib.Core.Bool.{Bool, true, false, cond, _&&_, _||_, not}
+use mathlib.Core.List.{List}
+use lib.Dec.{leb, ltb, eqb}
+use Rattle.bits.specs.Bits.{getBits, setBits}
+use Rattle.bits.specs.Decimal.{decimal, digits, coded}
+use Rattle.fields.specs.declared.Field.{Field}
+
+-- from bit a of word m to bit b of word n
+infixl 20 word_bit_until_bit_
+abbrev pub word_bit_until_bit_ : ℕ → ℕ → ℕ → ℕ → Field
+word m bit a until n bit b = record { 0 = m; 1 = a; 2 = 16 * n + b - (16 * m + a) + 1; 3 = false }
+
+-- bits a to b of word m
+infixl 20 word_bits_to_
+abbrev pub word_bits_to_ : ℕ → ℕ → ℕ → Field
+word m bits a to b = word m bit a until m bit b
+
+-- the whole of word m
+infixl 20 word_
+abbrev pub word_ : ℕ → Field
+word m = word m bits 1 to 16
+
+-- the same bits, as decimal digits of four bits each
+abbrev pub bcd : Field → Field
+bcd f = record { 0 = f .0; 1 = f .1; 2 = f .2; 3 = true }
+
+-- the first bit, counted from 0 through the whole header, and the number of bits
+abbrev pub start : Field → ℕ
+start f = 16 * (f .0 - 1) + (f .1 - 1)
+
+abbrev pub width : Field → ℕ
+width f = f .2
+
+-- whether it holds decimal digits, and how many
+abbrev pub isDecimal : Field → Bool
+isDecimal f = f .3
+
+abbrev pub digitCount : Field → ℕ
+digitCount f = f .2 / 4
+
+-- the value that a code, a field's bits as a number, stands for; and the code of a value
+abbrev pub decoded : Field → ℕ → ℕ
+decoded f code = cond (isDecimal f) (decimal (digitCount f) code) code
+
+abbrev pub encoded : Field → ℕ → ℕ
+encoded f value = cond (isDecimal f) (coded (digitCount f) value) value
+
+-- what the field holds in the bytes b
+unfoldable pub valueOf : Field → List ℕ → ℕ
+valueOf f b = decoded f (getBits (start f) (width f) b)
+
+-- the bytes b with the value put into the field
+unfoldable pub withValue : Field → ℕ → List ℕ → List ℕ
+withValue f v b = setBits (start f) (width f) (encoded f v) b
+
+-- each digit of a decimal field is at most 9; a binary field has no digits to judge
+unfoldable pub digitsGood : Field → List ℕ → Bool
+digitsGood f b = not (isDecimal f) || digits (digitCount f) (getBits (start f) (width f) b)
+
+-- a value has no more digits than a decimal field, or no more bits than a binary one
+abbrev pub decimalFits : Field → ℕ → Bool
+decimalFits f v = not (isDecimal f) || ltb v (10 ^ digitCount f)
+
+abbrev pub binaryFits : Field → ℕ → Bool
+binaryFits f v = isDecimal f || ltb v (2 ^ width f)
+
+-- a field that the code can read: words 1 to 4,000, at most 56 bits
+pub record Readable (f : Field) : Type 0 where
+  pub first : 1 ≤ f .0
+  pub last : f .0 ≤ 4000
+  pub high : 1 ≤ f .1
+  pub low : f .1 ≤ 16
+  pub narrow : width f ≤ 56
+
+-- the same as a test, and that a decimal field has whole digits
+abbrev pub readable : Field → Bool
+readable f = leb 1 (f .0) && (leb (f .0) 4000 && (leb 1 (f .1) && (leb (f .1) 16 && (leb (width f) 56 && (not (isDecimal f) || eqb (width f % 4) 0)))))

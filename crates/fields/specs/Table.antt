@@ -1,0 +1,49 @@
+-- A format as a table of fields: what it reads and writes, and the one test that makes a table sound.
+use Prim.Native.Nat.{ℕ, _+_, _≤_, _<_}
+use mathlib.Core.Bool.{Bool, true, false, _&&_, _||_}
+use mathlib.Core.List.{List, [], _∷_}
+use mathlib.Core.Logic.{_⊎_}
+use lib.Dec.{leb}
+use Rattle.fields.specs.declared.Field.{Field}
+use Rattle.fields.specs.Field.{start, width, valueOf, withValue, digitsGood, decimalFits, binaryFits, readable}
+
+-- what the fields hold, in the table's order
+abbrev pub readAll : List Field → List ℕ → List ℕ
+readAll [] b = []
+readAll (f ∷ fs) b = valueOf f b ∷ readAll fs b
+
+-- the bytes b with the values put into the fields
+abbrev pub writeAll : List Field → List ℕ → List ℕ → List ℕ
+writeAll [] vs b = b
+writeAll (f ∷ fs) [] b = b
+writeAll (f ∷ fs) (v ∷ vs) b = writeAll fs vs (withValue f v b)
+
+-- every digit of every decimal field is at most 9
+abbrev pub allDigitsGood : List Field → List ℕ → Bool
+allDigitsGood [] b = true
+allDigitsGood (f ∷ fs) b = digitsGood f b && allDigitsGood fs b
+
+-- every value fits its field: the decimal ones, and the binary ones; a value for each field
+abbrev pub allFit : (Field → ℕ → Bool) → List Field → List ℕ → Bool
+allFit fits [] [] = true
+allFit fits [] (v ∷ vs) = false
+allFit fits (f ∷ fs) [] = false
+allFit fits (f ∷ fs) (v ∷ vs) = fits f v && allFit fits fs vs
+
+-- two fields share no bit
+abbrev pub apart : Field → Field → Bool
+apart f g = leb (start f + width f) (start g) || leb (start g + width g) (start f)
+
+abbrev pub allApart : Field → List Field → Bool
+allApart f [] = true
+allApart f (g ∷ gs) = apart f g && allApart f gs
+
+-- the one test of a table: each field is readable and within the first n bits, and no two share a bit
+abbrev pub sound : ℕ → List Field → Bool
+sound n [] = true
+sound n (f ∷ fs) = readable f && (leb (start f + width f) n && (allApart f fs && sound n fs))
+
+-- bit i of the header belongs to no field of the table
+abbrev pub unnamed : ℕ → List Field → Type 0
+unnamed i [] = Unit
+unnamed i (f ∷ fs) = ((i < start f) ⊎ (start f + width f ≤ i)) × unnamed i fs
