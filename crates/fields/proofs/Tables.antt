@@ -2,18 +2,20 @@
 -- changes nothing, and bits that no field names are kept. Assumes nothing.
 use Prim.Native.Nat.{ℕ, zero, suc, _+_, _*_, _≤_, _<_}
 use mathlib.Core.Path.{_≡_, refl, ap, sym, _∙_, subst}
-use mathlib.Core.Bool.{_&&_}
+use mathlib.Core.Bool.{Bool, _&&_}
 use mathlib.Core.List.{List, [], _∷_}
 use mathlib.Core.Logic.{_⊎_, inl, inr, ⊎-elim}
 use native.Mathlib.Omega.{arith}
 use native.Mathlib.Nat.{not-suc-le-zero, le-of-suc-le-suc}
 use lib.Dec.{T, leb, leb→le, le→leb}
-use lib.ListN.{length, getD, List·getD-eq-default}
-use Rattle.lists.proofs.Truth.{left, right, both, either}
+use lib.ListN.{length, getD, drop, List·getD-eq-default, drop-of-length-le}
+use lib.Seq.{drop-cons}
+use native.Mathlib.Numerals.{add-one}
+use Rattle.lists.proofs.Truth.{left, right, both, either, and-true, and-assoc}
 use Rattle.bits.specs.Bits.{bitAt}
 use Rattle.bits.proofs.Bits.{byte-num, num-ext}
 use Rattle.fields.specs.declared.Field.{Field}
-use Rattle.fields.specs.Field.{start, width, valueOf, withValue, digitsGood, decimalFits, binaryFits, Readable, readable}
+use Rattle.fields.specs.Field.{none, start, width, valueOf, withValue, digitsGood, decimalFits, binaryFits, Readable, readable}
 use Rattle.fields.specs.Table.{readAll, writeAll, allDigitsGood, allFit, apart, allApart, sound, unnamed}
 use Rattle.fields.proofs.OneField.{is-readable, length-with, value-with, value-other, with-value, read-fits, digits-with, digits-other, bit-other}
 
@@ -163,3 +165,32 @@ bytes-kept n fs vs b k t h p q =
     sym (byte-num (writeAll fs vs b) k q)
     ∙ num-ext (bitAt (writeAll fs vs b)) (bitAt b) (8 * k) 8 (λ i l u. bits-kept fs vs b i (past-unnamed n fs i t (omega arith)))
     ∙ byte-num b k p
+
+-- ## loops over a table, row by row
+
+module _ (fs : List Field) (vs : List ℕ) (k : ℕ) (hf : k < length fs) (hv : k < length vs) where
+  -- the rows from k on are row k and those after it
+  rows : drop k fs ≡ getD fs k none ∷ drop (k + 1) fs
+  rows = drop-cons fs k none hf ∙ ap (λ (n : ℕ). getD fs k none ∷ drop n fs) (sym (add-one k))
+
+  given : drop k vs ≡ getD vs k 0 ∷ drop (k + 1) vs
+  given = drop-cons vs k 0 hv ∙ ap (λ (n : ℕ). getD vs k 0 ∷ drop n vs) (sym (add-one k))
+
+  pub write-turn : (b : List ℕ) → writeAll (drop (k + 1) fs) (drop (k + 1) vs) (withValue (getD fs k none) (getD vs k 0) b) ≡ writeAll (drop k fs) (drop k vs) b
+  write-turn b = sym (λ i. writeAll (rows i) (given i) b)
+
+  pub fit-turn : (fits : Field → ℕ → Bool) (good : Bool)
+      → (good && fits (getD fs k none) (getD vs k 0)) && allFit fits (drop (k + 1) fs) (drop (k + 1) vs) ≡ good && allFit fits (drop k fs) (drop k vs)
+  fit-turn fits good =
+      and-assoc good (fits (getD fs k none) (getD vs k 0)) (allFit fits (drop (k + 1) fs) (drop (k + 1) vs))
+      ∙ sym (λ i. good && allFit fits (rows i) (given i))
+
+none-left : {A : Type 0} (l : List A) (k : ℕ) → length l ≡ k → drop k l ≡ []
+none-left l k e = drop-of-length-le l {i = k} (omega arith)
+
+pub write-ended : (fs : List Field) (vs b : List ℕ) (k : ℕ) → length fs ≡ k → writeAll (drop k fs) (drop k vs) b ≡ b
+write-ended fs vs b k e = λ i. writeAll (none-left fs k e i) (drop k vs) b
+
+pub fit-ended : (fits : Field → ℕ → Bool) (fs : List Field) (vs : List ℕ) (k : ℕ) (good : Bool) → length fs ≡ k → length vs ≡ k
+    → good && allFit fits (drop k fs) (drop k vs) ≡ good
+fit-ended fits fs vs k good e g = (λ i. good && allFit fits (none-left fs k e i) (none-left vs k g i)) ∙ and-true good

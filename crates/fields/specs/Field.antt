@@ -27,6 +27,10 @@ word m = word m bits 1 to 16
 abbrev pub bcd : Field → Field
 bcd f = record { 0 = f .0; 1 = f .1; 2 = f .2; 3 = true }
 
+-- no field: what stands past the end of a table
+abbrev pub none : Field
+none = record { 0 = 0; 1 = 0; 2 = 0; 3 = false }
+
 -- the first bit, counted from 0 through the whole header, and the number of bits
 abbrev pub start : Field → ℕ
 start f = 16 * (f .0 - 1) + (f .1 - 1)

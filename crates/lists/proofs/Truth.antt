@@ -31,3 +31,11 @@ fails false t = refl
 
 pub held : (a : Bool) → a ≡ true → T a
 held a e = subst T (sym e) tt
+
+pub and-true : (a : Bool) → a && true ≡ a
+and-true true = refl
+and-true false = refl
+
+pub and-assoc : (a b c : Bool) → (a && b) && c ≡ a && (b && c)
+and-assoc true b c = refl
+and-assoc false b c = refl
