@@ -1,76 +1,155 @@
 // The header of 1985: one table of fields, which the reader and the writer consult. 01: the table of words under "The record".
 ghost use mathlib.Core.Path.{_≡_};
-ghost use lib.ListN.{getD};
 ghost use Rattle.fields.specs.Field.{binaryFits, decimalFits};
-ghost use Rattle.fields.specs.Table.{readAll, writeAll, allDigitsGood, allFit};
+ghost use Rattle.fields.specs.Table.{writeAll, allDigitsGood, allFit};
 ghost use Rattle.header.specs.Format.{fields};
 ghost use Rattle.header.specs.Header.{values, headerOf};
 use fields::Field;
 
+// Each field: its word, its first bit, its width in bits, and whether the bits are decimal digits.
+const CLOCK_ORIGIN: Field = Field(1, 1, 1, false);
+
+const SESSION_START: Field = Field(1, 2, 1, false);
+
+const COPY_ERROR: Field = Field(1, 3, 1, false);
+
+const CONVERSION: Field = Field(1, 4, 1, false);
+
+const COMPRESSION: Field = Field(1, 5, 4, false);
+
+const TAPE_NUMBER: Field = Field(1, 9, 8, false);
+
+const RECORD_NUMBER: Field = Field(2, 1, 16, false);
+
+const LENGTH_WORDS: Field = Field(3, 1, 16, false);
+
+const PRIME_FEA: Field = Field(4, 1, 8, false);
+
+const SECONDARY_FEA: Field = Field(4, 9, 8, false);
+
+const SPACECRAFT: Field = Field(5, 1, 8, false);
+
+const SPC: Field = Field(5, 9, 8, false);
+
+const YEAR: Field = Field(6, 1, 7, false);
+
+const DAY: Field = Field(6, 8, 9, false);
+
+const TIME_TAG_MS: Field = Field(7, 6, 27, false);
+
+const PREDICT_0: Field = Field(9, 1, 8, false);
+
+const PREDICT_1: Field = Field(9, 9, 8, false);
+
+const PREDICT_2: Field = Field(10, 1, 8, false);
+
+const PREDICT_3: Field = Field(10, 9, 8, false);
+
+const PREDICT_4: Field = Field(11, 1, 8, false);
+
+const PREDICT_5: Field = Field(11, 9, 8, false);
+
+const PREDICT_6: Field = Field(12, 1, 8, false);
+
+const PREDICT_7: Field = Field(12, 9, 8, false);
+
+const PREDICT_8: Field = Field(13, 1, 8, false);
+
+const PREDICT_9: Field = Field(13, 9, 8, false);
+
+const STATUS: Field = Field(14, 1, 8, false);
+
+const READBACK_UHZ: Field = Field(14, 9, 56, true);
+
+const READBACK_TAG_MS: Field = Field(18, 6, 27, false);
+
+const CALCULATED_UHZ: Field = Field(20, 9, 56, true);
+
+const FILTER: Field = Field(24, 1, 4, false);
+
+const UPDATE_TAG_MS: Field = Field(24, 6, 27, false);
+
+const RATE_DIGITS: Field = Field(26, 9, 20, true);
+
+const RATE_POWER: Field = Field(27, 13, 3, false);
+
+const RATE_SIGN: Field = Field(27, 16, 1, false);
+
+const PHASE_1: Field = Field(28, 1, 48, false);
+
+const PHASE_2: Field = Field(31, 1, 48, false);
+
+const SELECTOR_1: Field = Field(34, 1, 4, false);
+
+const SELECTOR_2: Field = Field(34, 5, 4, false);
+
+const SELECTOR_3: Field = Field(34, 9, 4, false);
+
+const SELECTOR_4: Field = Field(34, 13, 4, false);
+
+const COUNTER_TAG_MS: Field = Field(35, 6, 27, false);
+
+const SAMPLE_RATE_HZ: Field = Field(37, 1, 16, false);
+
+const SYNC_WORD: Field = Field(38, 1, 16, false);
+
+const WORD_39: Field = Field(39, 1, 16, false);
+
+const REGISTER_1: Field = Field(40, 1, 8, false);
+
+const REGISTER_2: Field = Field(40, 9, 8, false);
+
 const FIELD_COUNT: usize = 46;
 
-// Word, first bit, width in bits, and whether the bits are decimal digits.
+// The format: the fields in the order of the words.
 const FIELDS: [Field; 46] = [
-    Field(1, 1, 1, false), // clock origin
-    Field(1, 2, 1, false), // session start
-    Field(1, 3, 1, false), // copy error
-    Field(1, 4, 1, false), // conversion
-    Field(1, 5, 4, false), // compression
-    Field(1, 9, 8, false), // tape number
-    Field(2, 1, 16, false), // record number
-    Field(3, 1, 16, false), // length words
-    Field(4, 1, 8, false), // prime fea
-    Field(4, 9, 8, false), // secondary fea
-    Field(5, 1, 8, false), // spacecraft
-    Field(5, 9, 8, false), // spc
-    Field(6, 1, 7, false), // year
-    Field(6, 8, 9, false), // day
-    Field(7, 6, 27, false), // time tag ms
-    Field(9, 1, 8, false), // predict 0
-    Field(9, 9, 8, false), // predict 1
-    Field(10, 1, 8, false), // predict 2
-    Field(10, 9, 8, false), // predict 3
-    Field(11, 1, 8, false), // predict 4
-    Field(11, 9, 8, false), // predict 5
-    Field(12, 1, 8, false), // predict 6
-    Field(12, 9, 8, false), // predict 7
-    Field(13, 1, 8, false), // predict 8
-    Field(13, 9, 8, false), // predict 9
-    Field(14, 1, 8, false), // status
-    Field(14, 9, 56, true), // readback uhz
-    Field(18, 6, 27, false), // readback tag ms
-    Field(20, 9, 56, true), // calculated uhz
-    Field(24, 1, 4, false), // filter
-    Field(24, 6, 27, false), // update tag ms
-    Field(26, 9, 20, true), // rate digits
-    Field(27, 13, 3, false), // rate power
-    Field(27, 16, 1, false), // rate sign
-    Field(28, 1, 48, false), // phase 1
-    Field(31, 1, 48, false), // phase 2
-    Field(34, 1, 4, false), // selector 1
-    Field(34, 5, 4, false), // selector 2
-    Field(34, 9, 4, false), // selector 3
-    Field(34, 13, 4, false), // selector 4
-    Field(35, 6, 27, false), // counter tag ms
-    Field(37, 1, 16, false), // sample rate hz
-    Field(38, 1, 16, false), // sync word
-    Field(39, 1, 16, false), // word 39
-    Field(40, 1, 8, false), // register 1
-    Field(40, 9, 8, false), // register 2
+    CLOCK_ORIGIN,
+    SESSION_START,
+    COPY_ERROR,
+    CONVERSION,
+    COMPRESSION,
+    TAPE_NUMBER,
+    RECORD_NUMBER,
+    LENGTH_WORDS,
+    PRIME_FEA,
+    SECONDARY_FEA,
+    SPACECRAFT,
+    SPC,
+    YEAR,
+    DAY,
+    TIME_TAG_MS,
+    PREDICT_0,
+    PREDICT_1,
+    PREDICT_2,
+    PREDICT_3,
+    PREDICT_4,
+    PREDICT_5,
+    PREDICT_6,
+    PREDICT_7,
+    PREDICT_8,
+    PREDICT_9,
+    STATUS,
+    READBACK_UHZ,
+    READBACK_TAG_MS,
+    CALCULATED_UHZ,
+    FILTER,
+    UPDATE_TAG_MS,
+    RATE_DIGITS,
+    RATE_POWER,
+    RATE_SIGN,
+    PHASE_1,
+    PHASE_2,
+    SELECTOR_1,
+    SELECTOR_2,
+    SELECTOR_3,
+    SELECTOR_4,
+    COUNTER_TAG_MS,
+    SAMPLE_RATE_HZ,
+    SYNC_WORD,
+    WORD_39,
+    REGISTER_1,
+    REGISTER_2,
 ];
-
-// Places in the table that are named apart from the header.
-const RECORD_NUMBER: usize = 6;
-
-const TIME_TAG: usize = 14;
-
-const READBACK: usize = 26;
-
-const CALCULATED: usize = 28;
-
-const RATE_DIGITS: usize = 31;
-
-const SAMPLE_RATE: usize = 41;
 
 // Every field is a number of 64 bits, so each can be given a value too wide for its bits: refusal 22 of a writer.
 pub struct Header {
@@ -122,67 +201,57 @@ pub struct Header {
     pub register_2: u64,
 }
 
-// The value of field k of the table, or 0 where there is none.
-fn value(bytes: &[u8], k: usize) -> u64
-    ensures { λ r. ⌜ r ≡ getD (readAll fields (now (bytes .entry))) k 0 ⌝ }
-{
-    if k < FIELD_COUNT {
-        return fields::read_field(bytes, FIELDS[k]);
-    }
-    0
-}
-
 // The header that the bytes hold.
 pub fn read_fields(bytes: &[u8]) -> Header
     ensures { λ r. ⌜ r ≡ headerOf (now (bytes .entry)) ⌝ }
 {
     Header {
-        clock_origin: value(bytes, 0),
-        session_start: value(bytes, 1),
-        copy_error: value(bytes, 2),
-        conversion: value(bytes, 3),
-        compression: value(bytes, 4),
-        tape_number: value(bytes, 5),
-        record_number: value(bytes, 6),
-        length_words: value(bytes, 7),
-        prime_fea: value(bytes, 8),
-        secondary_fea: value(bytes, 9),
-        spacecraft: value(bytes, 10),
-        spc: value(bytes, 11),
-        year: value(bytes, 12),
-        day: value(bytes, 13),
-        time_tag_ms: value(bytes, 14),
-        predict_0: value(bytes, 15),
-        predict_1: value(bytes, 16),
-        predict_2: value(bytes, 17),
-        predict_3: value(bytes, 18),
-        predict_4: value(bytes, 19),
-        predict_5: value(bytes, 20),
-        predict_6: value(bytes, 21),
-        predict_7: value(bytes, 22),
-        predict_8: value(bytes, 23),
-        predict_9: value(bytes, 24),
-        status: value(bytes, 25),
-        readback_uhz: value(bytes, 26),
-        readback_tag_ms: value(bytes, 27),
-        calculated_uhz: value(bytes, 28),
-        filter: value(bytes, 29),
-        update_tag_ms: value(bytes, 30),
-        rate_digits: value(bytes, 31),
-        rate_power: value(bytes, 32),
-        rate_sign: value(bytes, 33),
-        phase_1: value(bytes, 34),
-        phase_2: value(bytes, 35),
-        selector_1: value(bytes, 36),
-        selector_2: value(bytes, 37),
-        selector_3: value(bytes, 38),
-        selector_4: value(bytes, 39),
-        counter_tag_ms: value(bytes, 40),
-        sample_rate_hz: value(bytes, 41),
-        sync_word: value(bytes, 42),
-        word_39: value(bytes, 43),
-        register_1: value(bytes, 44),
-        register_2: value(bytes, 45),
+        clock_origin: fields::read_field(bytes, CLOCK_ORIGIN),
+        session_start: fields::read_field(bytes, SESSION_START),
+        copy_error: fields::read_field(bytes, COPY_ERROR),
+        conversion: fields::read_field(bytes, CONVERSION),
+        compression: fields::read_field(bytes, COMPRESSION),
+        tape_number: fields::read_field(bytes, TAPE_NUMBER),
+        record_number: fields::read_field(bytes, RECORD_NUMBER),
+        length_words: fields::read_field(bytes, LENGTH_WORDS),
+        prime_fea: fields::read_field(bytes, PRIME_FEA),
+        secondary_fea: fields::read_field(bytes, SECONDARY_FEA),
+        spacecraft: fields::read_field(bytes, SPACECRAFT),
+        spc: fields::read_field(bytes, SPC),
+        year: fields::read_field(bytes, YEAR),
+        day: fields::read_field(bytes, DAY),
+        time_tag_ms: fields::read_field(bytes, TIME_TAG_MS),
+        predict_0: fields::read_field(bytes, PREDICT_0),
+        predict_1: fields::read_field(bytes, PREDICT_1),
+        predict_2: fields::read_field(bytes, PREDICT_2),
+        predict_3: fields::read_field(bytes, PREDICT_3),
+        predict_4: fields::read_field(bytes, PREDICT_4),
+        predict_5: fields::read_field(bytes, PREDICT_5),
+        predict_6: fields::read_field(bytes, PREDICT_6),
+        predict_7: fields::read_field(bytes, PREDICT_7),
+        predict_8: fields::read_field(bytes, PREDICT_8),
+        predict_9: fields::read_field(bytes, PREDICT_9),
+        status: fields::read_field(bytes, STATUS),
+        readback_uhz: fields::read_field(bytes, READBACK_UHZ),
+        readback_tag_ms: fields::read_field(bytes, READBACK_TAG_MS),
+        calculated_uhz: fields::read_field(bytes, CALCULATED_UHZ),
+        filter: fields::read_field(bytes, FILTER),
+        update_tag_ms: fields::read_field(bytes, UPDATE_TAG_MS),
+        rate_digits: fields::read_field(bytes, RATE_DIGITS),
+        rate_power: fields::read_field(bytes, RATE_POWER),
+        rate_sign: fields::read_field(bytes, RATE_SIGN),
+        phase_1: fields::read_field(bytes, PHASE_1),
+        phase_2: fields::read_field(bytes, PHASE_2),
+        selector_1: fields::read_field(bytes, SELECTOR_1),
+        selector_2: fields::read_field(bytes, SELECTOR_2),
+        selector_3: fields::read_field(bytes, SELECTOR_3),
+        selector_4: fields::read_field(bytes, SELECTOR_4),
+        counter_tag_ms: fields::read_field(bytes, COUNTER_TAG_MS),
+        sample_rate_hz: fields::read_field(bytes, SAMPLE_RATE_HZ),
+        sync_word: fields::read_field(bytes, SYNC_WORD),
+        word_39: fields::read_field(bytes, WORD_39),
+        register_1: fields::read_field(bytes, REGISTER_1),
+        register_2: fields::read_field(bytes, REGISTER_2),
     }
 }
 
@@ -262,9 +331,9 @@ pub fn write_fields(bytes: &mut [u8], h: Header)
 pub fn good_digits(bytes: &[u8]) -> bool
     ensures { λ r. ⌜ r ≡ allDigitsGood fields (now (bytes .entry)) ⌝ }
 {
-    let readback = fields::good_digits(bytes, FIELDS[READBACK]);
-    let calculated = fields::good_digits(bytes, FIELDS[CALCULATED]);
-    let rate = fields::good_digits(bytes, FIELDS[RATE_DIGITS]);
+    let readback = fields::good_digits(bytes, READBACK_UHZ);
+    let calculated = fields::good_digits(bytes, CALCULATED_UHZ);
+    let rate = fields::good_digits(bytes, RATE_DIGITS);
     readback & (calculated & rate)
 }
 
