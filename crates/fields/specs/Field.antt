@@ -2,8 +2,9 @@
 -- 01: the table of words under "The record".
 use Prim.Native.Nat.{ℕ, _+_, _-_, _*_, _/_, _%_, _^_, _≤_, _<_}
 use mathlib.Core.Bool.{Bool, true, false, cond, _&&_, _||_, not}
-use mathlib.Core.List.{List}
+use mathlib.Core.List.{List, [], _∷_}
 use lib.Dec.{leb, ltb, eqb}
+use Rattle.lists.specs.Tests.{all}
 use Rattle.bits.specs.Bits.{getBits, setBits}
 use Rattle.bits.specs.Decimal.{decimal, digits, coded}
 use Rattle.fields.specs.declared.Field.{Field}
@@ -80,5 +81,15 @@ pub record Readable (f : Field) : Type 0 where
   pub narrow : width f ≤ 56
 
 -- the same as a test, and that a decimal field has whole digits
+abbrev pub fieldTests : Field → List Bool
+fieldTests f =
+    leb 1 (f .0) ∷
+    leb (f .0) 4000 ∷
+    leb 1 (f .1) ∷
+    leb (f .1) 16 ∷
+    leb (width f) 56 ∷
+    (not (isDecimal f) || eqb (width f % 4) 0) ∷
+    []
+
 abbrev pub readable : Field → Bool
-readable f = leb 1 (f .0) && (leb (f .0) 4000 && (leb 1 (f .1) && (leb (f .1) 16 && (leb (width f) 56 && (not (isDecimal f) || eqb (width f % 4) 0)))))
+readable f = all (fieldTests f)

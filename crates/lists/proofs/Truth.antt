@@ -2,7 +2,11 @@
 use mathlib.Core.Path.{_≡_, refl, sym, subst}
 use mathlib.Core.Bool.{Bool, true, false, not, _&&_, _||_}
 use mathlib.Core.Logic.{_⊎_, inl, inr}
+use mathlib.Core.List.{List, [], _∷_}
+use Prim.Native.Nat.{ℕ, zero, suc}
 use lib.Dec.{T}
+use lib.ListN.{getD}
+use Rattle.lists.specs.Tests.{all}
 
 pub left : (a b : Bool) → T (a && b) → T a
 left true b t = tt
@@ -39,3 +43,9 @@ and-true false = refl
 pub and-assoc : (a b c : Bool) → (a && b) && c ≡ a && (b && c)
 and-assoc true b c = refl
 and-assoc false b c = refl
+
+-- each of a list of tests that all hold
+pub each : (bs : List Bool) (k : ℕ) → T (all bs) → T (getD bs k true)
+each [] k t = tt
+each (b ∷ bs) zero t = left b (all bs) t
+each (b ∷ bs) (suc k) t = each bs k (right b (all bs) t)

@@ -1,0 +1,5 @@
+mod Complement
+mod Interleave
+pub mod Sign
+pub mod OutThenIn
+pub mod InThenOut

@@ -1,0 +1,38 @@
+-- Samples: two's complement bytes, the four channels in turn (01: "Sample k (from 0) of channel c (1 to 4) is byte
+-- 80 + 4k + (c - 1), a two's complement number"). A stretch is the bytes from byte 80.
+use Prim.Native.Nat.{ℕ, _+_, _-_, _*_, _/_, _%_}
+use mathlib.Core.Bool.{cond}
+use mathlib.Core.List.{List, []}
+use lib.ListN.{getD}
+use lib.IntN.{ℤ, pos, negsuc}
+use lib.Dec.{eqb, ltb}
+use Rattle.lists.specs.Fill.{tab}
+
+-- a byte as a two's complement number: below 128 itself, else the byte minus 256 (negsuc n is the number -1 - n)
+unfoldable pub signedOf : ℕ → ℤ
+signedOf byte = cond (ltb byte 128) (pos byte) (negsuc (255 - byte))
+
+-- the byte of a signed sample: from 0 up the sample itself, else the sample plus 256
+unfoldable pub byteOf : ℤ → ℕ
+byteOf (pos n) = n
+byteOf (negsuc n) = 255 - n
+
+-- sample k of a channel (1 to 4) of the stretch
+abbrev pub sampleOf : List ℕ → ℕ → ℕ → ℤ
+sampleOf stretch channel k = signedOf (getD stretch (4 * k + (channel - 1)) 0)
+
+-- the first n samples of a channel of the stretch
+abbrev pub samplesOf : List ℕ → ℕ → ℕ → List ℤ
+samplesOf stretch channel n = tab (sampleOf stretch channel) 0 n
+
+-- channel c (1 to 4) of the four
+unfoldable pub channelOf : List ℤ → List ℤ → List ℤ → List ℤ → ℕ → List ℤ
+channelOf one two three four c = cond (eqb c 1) one (cond (eqb c 2) two (cond (eqb c 3) three (cond (eqb c 4) four [])))
+
+-- byte i of the samples of four channels: the channels in turn, so sample i / 4 of channel i % 4 + 1
+abbrev pub interleavedByte : List ℤ → List ℤ → List ℤ → List ℤ → ℕ → ℕ
+interleavedByte one two three four i = byteOf (getD (channelOf one two three four (i % 4 + 1)) (i / 4) (pos 0))
+
+-- the 4n bytes of the first n samples of four channels
+unfoldable pub interleaved : ℕ → List ℤ → List ℤ → List ℤ → List ℤ → List ℕ
+interleaved n one two three four = tab (interleavedByte one two three four) 0 (4 * n)

@@ -1,0 +1,76 @@
+// Samples of a record's sample stretch, out to channels and back (01: "Samples go out to four lent channel buffers of signed
+// bytes and come back in"). The stretch is what the caller cut from byte 80; nothing here knows of records.
+ghost use mathlib.Core.Path.{_≡_};
+ghost use Prim.Native.Nat.{_*_, _≤_, _<_};
+ghost use lib.IntN.{pos};
+ghost use lib.ListN.{length, getD, set};
+ghost use Rattle.lists.specs.Fill.{over};
+ghost use Rattle.channels.specs.Sample.{signedOf, byteOf, sampleOf, interleaved};
+
+// A byte as a two's complement number.
+pub fn signed(byte: u8) -> i8
+    ensures { λ r. ⌜ r ≡ signedOf byte ⌝ }
+{
+    if byte < 128 {
+        return byte as i8;
+    }
+    -1 - ((255 - byte) as i8)
+}
+
+// The byte of a signed sample.
+pub fn unsigned(sample: i8) -> u8
+    ensures { λ r. ⌜ r ≡ byteOf sample ⌝ }
+{
+    if sample >= 0 {
+        return sample as u8;
+    }
+    255 - ((-1 - sample) as u8)
+}
+
+// The first `count` samples of one channel, out to a lent buffer; places past them keep their contents.
+pub fn demultiplex(stretch: &[u8], channel: usize, count: usize, out: &mut [i8])
+    requires { ⌜ (1 ≤ channel) × (channel ≤ 4) ⌝ }
+    requires { ⌜ (4 * count ≤ length (now stretch)) × (count ≤ length (now out)) ⌝ }
+    ensures { λ _. ⌜ now (out .exit) ≡ over (now (out .entry)) (sampleOf (now (stretch .entry)) channel) count ⌝ }
+{
+    let place = channel - 1;
+    let mut k: usize = 0;
+    while k < count {
+        let sample = signed(stretch[4 * k + place]);
+        out[k] = sample;
+        k += 1;
+    }
+}
+
+// Sample k of a channel, into one byte of the stretch.
+fn store(stretch: &mut [u8], place: usize, samples: &[i8], k: usize)
+    requires { ⌜ (place < length (now stretch)) × (k < length (now samples)) ⌝ }
+    ensures { λ _. ⌜ now (stretch .exit) ≡ set (now (stretch .entry)) place (byteOf (getD (now (samples .entry)) k (pos 0))) ⌝ }
+{
+    stretch[place] = unsigned(samples[k]);
+}
+
+// The first `count` samples of the four channels, into a stretch of exactly their bytes.
+pub fn multiplex(
+    stretch: &mut [u8],
+    count: usize,
+    one: &[i8],
+    two: &[i8],
+    three: &[i8],
+    four: &[i8],
+)
+    requires { ⌜ length (now stretch) ≡ 4 * count ⌝ }
+    requires { ⌜ (count ≤ length (now one)) × (count ≤ length (now two)) ⌝ }
+    requires { ⌜ (count ≤ length (now three)) × (count ≤ length (now four)) ⌝ }
+    ensures { λ _. ⌜ now (stretch .exit) ≡ interleaved count (now (one .entry)) (now (two .entry)) (now (three .entry)) (now (four .entry)) ⌝ }
+{
+    let mut k: usize = 0;
+    while k < count {
+        let first = 4 * k;
+        store(stretch, first, one, k);
+        store(stretch, first + 1, two, k);
+        store(stretch, first + 2, three, k);
+        store(stretch, first + 3, four, k);
+        k += 1;
+    }
+}
