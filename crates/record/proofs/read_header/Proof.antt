@@ -1,0 +1,61 @@
+-- The header is shown where its record is accepted. Assumes nothing.
+use Prim.Native.Nat.{ℕ}
+use mathlib.Core.Path.{_≡_, _∙_, ap, sym}
+use mathlib.Core.List.{List, []}
+use denote.Ref.{now}
+use lib.ListN.{length}
+use Rattle.fields.specs.Table.{readAll}
+use Rattle.header.specs.Format.{fields}
+use Rattle.header.specs.Header.{values}
+use Rattle.header.proofs.Sound.{values-header}
+use Rattle.record.specs.Answer.{accepted, refused}
+use Rattle.record.specs.Refusal.{first}
+use Rattle.record.specs.Record.{checks, recordRefusal, headerAnswer}
+use Rattle.record.proofs.Refusals.{unless-none, unless-some}
+use borrow.Author.Needs.{needs}
+use Rattle.record.proofs.read_header.Statement.{statement}
+use Rattle.record.proofs.read_header.Tie as tie
+use Rattle.record.proofs.read_header.Reads as reads
+use Rattle.record.proofs.read_header.Lts as lts
+use Rattle.header.proofs.good_digits.Reads as good-digits-reads
+use Rattle.header.proofs.read_fields.Reads as read-fields-reads
+use Rattle.record.proofs.judge.Reads as judge-reads
+
+-- src/lib.rt:132:9
+read-fields-requires : tie.Need-read-fields-requires
+read-fields-requires c κs = search needs
+
+-- src/lib.rt:133:35
+good-digits-requires : tie.Need-good-digits-requires
+good-digits-requires c κs = search needs
+
+-- src/lib.rt:133:9
+judge-requires : tie.Need-judge-requires
+judge-requires c κs = search needs
+
+-- src/lib.rt:135:9
+returns : tie.Need-returns
+unfolding recordRefusal headerAnswer
+returns c =
+    let j = c .before in
+    let g = j .before in
+    let b = now (g .before .before .before .args .bytes) in
+    let e : j .judge .result ≡ recordRefusal b =
+    j .judge .ensures ∙ (λ i. first (checks (length b) (g .before .read-fields .ensures i) (g .good-digits .ensures i))) in
+    ap (λ (v : List ℕ). accepted v) (ap values (g .before .read-fields .ensures) ∙ values-header b)
+    ∙ unless-none (recordRefusal b) [] (readAll fields b) (sym e ∙ c .if1 .taken)
+
+-- src/lib.rt:129:1
+returns-2 : tie.Need-returns-2
+unfolding recordRefusal headerAnswer
+returns-2 c =
+    let j = c .before in
+    let g = j .before in
+    let b = now (g .before .before .before .args .bytes) in
+    let e : j .judge .result ≡ recordRefusal b =
+    j .judge .ensures ∙ (λ i. first (checks (length b) (g .before .read-fields .ensures i) (g .good-digits .ensures i))) in
+    ap (λ (n : ℕ). refused [] n) e ∙ unless-some (recordRefusal b) [] (readAll fields b) (λ z. c .if1 .left (e ∙ z))
+
+pub read-header-spec : {M : Type 1} → statement M
+read-header-spec =
+    tie.close (tie.spec read-fields-requires good-digits-requires judge-requires returns returns-2)

@@ -1,0 +1,13 @@
+-- The length by its halves. Assumes nothing.
+use Rattle.record.proofs.Length.{halves}
+use Rattle.record.proofs.wrong_length.Statement.{statement}
+use Rattle.record.proofs.wrong_length.Tie as tie
+use Rattle.record.proofs.wrong_length.Reads as reads
+use Rattle.record.proofs.wrong_length.Lts as lts
+
+-- src/lib.rt:37:1
+returns : tie.Need-returns
+returns c = halves (c .args .bytes) (c .args .words)
+
+pub wrong-length-spec : {M : Type 1} → statement M
+wrong-length-spec = tie.close (tie.spec returns)

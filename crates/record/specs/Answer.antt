@@ -1,0 +1,19 @@
+-- What a call answers. 01: "Beside a refusal's number any other part of an answer is 0 or empty".
+use Prim.Native.Nat.{ℕ}
+use mathlib.Core.Bool.{cond}
+use lib.Dec.{eqb}
+
+-- the refusal number of 01, 0 for none, and the value
+pub record Answer (A : Type 0) : Type 0 where
+  pub number : ℕ
+  pub value : A
+
+abbrev pub accepted : {A : Type 0} → A → Answer A
+accepted v = record { number = 0; value = v }
+
+abbrev pub refused : {A : Type 0} → A → ℕ → Answer A
+refused empty n = record { number = n; value = empty }
+
+-- the value where n is no refusal, else the refusal beside what is empty
+abbrev pub unless : {A : Type 0} → ℕ → A → A → Answer A
+unless n empty v = cond (eqb n 0) (accepted v) (refused empty n)

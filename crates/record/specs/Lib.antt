@@ -1,0 +1,5 @@
+pub mod Answer
+pub mod Refusal
+pub mod Record
+pub mod FrequencyRate
+pub mod Shown

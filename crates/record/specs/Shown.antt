@@ -1,0 +1,18 @@
+-- The number and the values of 01 for each case of the code's answers.
+use Prim.Native.Nat.{ℕ}
+use mathlib.Core.List.{List, []}
+use lib.IntN.{ℤ, pos}
+use Rattle.header.specs.Header.{values}
+use Rattle.record.specs.Answer.{Answer, accepted, refused}
+use Rattle.record.specs.declared.HeaderAnswer.{HeaderAnswer}
+use Rattle.record.specs.declared.HeaderAnswer.the-variants as HeaderAnswer
+use Rattle.record.specs.declared.RateAnswer.{RateAnswer}
+use Rattle.record.specs.declared.RateAnswer.the-variants as RateAnswer
+
+abbrev pub shownHeader : HeaderAnswer → Answer (List ℕ)
+shownHeader (HeaderAnswer.Accepted h) = accepted (values h)
+shownHeader (HeaderAnswer.Refused n) = refused [] n
+
+abbrev pub shownRate : RateAnswer → Answer ℤ
+shownRate (RateAnswer.Units x) = accepted x
+shownRate (RateAnswer.Refused n) = refused (pos 0) n

@@ -1,0 +1,203 @@
+// Records of 1985: which are accepted, their header read and written, and the frequency rate. 01: "The record", refusals 1 to
+// 11 and 22. Every function here takes any bytes; a refusal is 01's number, and 0 is none.
+ghost use mathlib.Core.Path.{_≡_};
+ghost use mathlib.Core.Bool.{Bool, not};
+ghost use mathlib.Core.List.{[], _∷_};
+ghost use Prim.Native.Nat.{_+_, _*_, _^_, _≤_, _<_};
+ghost use lib.Dec.{eqb};
+ghost use lib.ListN.{length};
+ghost use Rattle.record.specs.Refusal.{_when_, first};
+ghost use Rattle.record.specs.Record.{checks, recordRefusal, headerAnswer, writeRefusal, afterWriting};
+ghost use Rattle.record.specs.FrequencyRate.{rateUnits, rateAnswer};
+ghost use Rattle.record.specs.Shown.{shownHeader, shownRate};
+use header::Header;
+
+// Bytes of the header.
+pub const HEADER_BYTES: usize = 80;
+
+// The last millisecond of a day.
+const LAST_MS: u64 = 86_399_999;
+
+// A55A hex.
+const SYNC_WORD: u64 = 42_330;
+
+// A header that was read, or the refusal.
+pub enum HeaderAnswer {
+    Accepted(Header),
+    Refused(u8),
+}
+
+// The frequency rate in units of 0.00001 Hz/s, or the refusal.
+pub enum RateAnswer {
+    Units(i64),
+    Refused(u8),
+}
+
+// Whether a length in bytes is not twice a length in words; no product, so that no number of words can wrap.
+fn wrong_length(bytes: usize, words: u64) -> bool
+    ensures { λ r. ⌜ r ≡ not (eqb bytes (2 * words)) ⌝ }
+{
+    let whole = (bytes / 2) as u64;
+    (bytes % 2 != 0) | (whole != words)
+}
+
+// The number of the first check of 1 to 11 that applies, or 0.
+fn first_of(
+    short: bool,
+    length: bool,
+    conversion: bool,
+    compression: bool,
+    rate: bool,
+    size: bool,
+    zero: bool,
+    date: bool,
+    time: bool,
+    digits: bool,
+    sync: bool,
+) -> u8
+    ensures { λ r. ⌜ r ≡ first (1 when short ∷ 2 when length ∷ 3 when conversion ∷ 4 when compression ∷ 5 when rate ∷ 6 when size ∷ 7 when zero ∷ 8 when date ∷ 9 when time ∷ 10 when digits ∷ 11 when sync ∷ []) ⌝ }
+{
+    if short {
+        return 1;
+    }
+    if length {
+        return 2;
+    }
+    if conversion {
+        return 3;
+    }
+    if compression {
+        return 4;
+    }
+    if rate {
+        return 5;
+    }
+    if size {
+        return 6;
+    }
+    if zero {
+        return 7;
+    }
+    if date {
+        return 8;
+    }
+    if time {
+        return 9;
+    }
+    if digits {
+        return 10;
+    }
+    if sync {
+        return 11;
+    }
+    0
+}
+
+// The refusal of a record of this many bytes with this header, whose decimal fields are decimal or not.
+fn judge(bytes: usize, h: Header, decimals: bool) -> u8
+    ensures { λ r. ⌜ r ≡ first (checks bytes h decimals) ⌝ }
+{
+    let rate = rates::rate_of(h.sample_rate_hz);
+    let words = h.length_words;
+    first_of(
+        bytes < HEADER_BYTES,
+        wrong_length(bytes, words),
+        h.conversion == 1,
+        h.compression != 1,
+        rate.0 == 0,
+        (words != rate.4) & (words != rate.5),
+        (h.tape_number == 0) | (h.record_number == 0),
+        (h.year > 99) | ((h.day == 0) | (h.day > 366)),
+        (h.time_tag_ms > LAST_MS) | (h.readback_tag_ms > LAST_MS),
+        !decimals,
+        (h.clock_origin == 1) & (h.sync_word != SYNC_WORD),
+    )
+}
+
+// The refusal of the bytes as a record, 1 to 11, or 0 where they are accepted.
+pub fn accept(bytes: &[u8]) -> u8
+    ensures { λ r. ⌜ r ≡ recordRefusal (now (bytes .entry)) ⌝ }
+{
+    judge(
+        bytes.len(),
+        header::read_fields(bytes),
+        header::good_digits(bytes),
+    )
+}
+
+// The header of a record.
+pub fn read_header(bytes: &[u8]) -> HeaderAnswer
+    ensures { λ r. ⌜ shownHeader r ≡ headerAnswer (now (bytes .entry)) ⌝ }
+{
+    let h = header::read_fields(bytes);
+    let n = judge(bytes.len(), h, header::good_digits(bytes));
+    if n == 0 {
+        return HeaderAnswer::Accepted(h);
+    }
+    HeaderAnswer::Refused(n)
+}
+
+// The refusal of a header to be written into this many bytes, 1 to 11 or 22, or 0.
+fn judge_writing(bytes: usize, h: Header) -> u8
+    ensures { λ r. ⌜ r ≡ writeRefusal bytes h ⌝ }
+{
+    let n = judge(bytes, h, header::decimals_fit(h));
+    if n != 0 {
+        return n;
+    }
+    if header::binaries_fit(h) {
+        return 0;
+    }
+    22
+}
+
+// The header goes into the bytes of a record of its length. Bits that 01 does not name and all bytes past the header stay.
+pub fn write_header(bytes: &mut [u8], h: Header) -> u8
+    ensures { λ r. ⌜ r ≡ writeRefusal (length (now (bytes .entry))) h ⌝ }
+    ensures { λ r. ⌜ now (bytes .exit) ≡ afterWriting (now (bytes .entry)) h ⌝ }
+{
+    let n = judge_writing(bytes.len(), h);
+    if n == 0 {
+        header::write_fields(bytes, h);
+        return 0;
+    }
+    n
+}
+
+// 10 to a power below 8.
+fn ten_to(power: u64) -> u64
+    requires { ⌜ power < 8 ⌝ }
+    ensures { λ r. ⌜ (r ≡ 10 ^ power) × (r ≤ 10000000) ⌝ }
+{
+    let mut x: u64 = 1;
+    let mut k: u64 = 0;
+    while k < power {
+        x = x * 10;
+        k += 1;
+    }
+    x
+}
+
+// The rate by its digits, power and sign bit.
+fn rate_units(digits: u64, power: u64, sign: u64) -> i64
+    requires { ⌜ (digits < 100000) × (power < 8) ⌝ }
+    ensures { λ r. ⌜ r ≡ rateUnits digits power sign ⌝ }
+{
+    let size = (digits * ten_to(power)) as i64;
+    if sign == 1 {
+        return size;
+    }
+    0 - size
+}
+
+// The frequency rate of a record.
+pub fn frequency_rate(bytes: &[u8]) -> RateAnswer
+    ensures { λ r. ⌜ shownRate r ≡ rateAnswer (now (bytes .entry)) ⌝ }
+{
+    let n = accept(bytes);
+    if n != 0 {
+        return RateAnswer::Refused(n);
+    }
+    let h = header::read_fields(bytes);
+    RateAnswer::Units(rate_units(h.rate_digits, h.rate_power, h.rate_sign))
+}
