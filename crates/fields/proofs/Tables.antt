@@ -148,6 +148,14 @@ values-fit (f ∷ fs) b g =
       both (binaryFits f (valueOf f b)) _ (p .1) (q .1),
     )
 
+-- each value fits its field
+pub fit-at : (fits : Field → ℕ → Bool) (fs : List Field) (vs : List ℕ) (k : ℕ) → T (allFit fits fs vs) → k < length fs
+    → T (fits (getD fs k none) (getD vs k 0))
+fit-at fits [] vs k t h = absurd (not-suc-le-zero h)
+fit-at fits (f ∷ fs) [] k t h = absurd t
+fit-at fits (f ∷ fs) (v ∷ vs) zero t h = left (fits f v) (allFit fits fs vs) t
+fit-at fits (f ∷ fs) (v ∷ vs) (suc k) t h = fit-at fits fs vs k (right (fits f v) (allFit fits fs vs) t) (le-of-suc-le-suc h)
+
 -- bits that no field names are kept
 pub bits-kept : (fs : List Field) (vs b : List ℕ) (i : ℕ) → unnamed i fs → bitAt (writeAll fs vs b) i ≡ bitAt b i
 bits-kept [] vs b i u = refl

@@ -1,6 +1,6 @@
 -- Tests that are computed, taken apart and put together. Assumes nothing.
 use mathlib.Core.Path.{_≡_, refl, sym, subst}
-use mathlib.Core.Bool.{Bool, true, false, not, _&&_, _||_}
+use mathlib.Core.Bool.{true≢false, Bool, true, false, not, _&&_, _||_}
 use mathlib.Core.Logic.{_⊎_, inl, inr}
 use mathlib.Core.List.{List, [], _∷_}
 use Prim.Native.Nat.{ℕ, zero, suc}
@@ -49,3 +49,11 @@ pub each : (bs : List Bool) (k : ℕ) → T (all bs) → T (getD bs k true)
 each [] k t = tt
 each (b ∷ bs) zero t = left b (all bs) t
 each (b ∷ bs) (suc k) t = each bs k (right b (all bs) t)
+
+pub and-false : (a b : Bool) → a && b ≡ false → (a ≡ false) ⊎ (b ≡ false)
+and-false true b e = inr e
+and-false false b e = inl refl
+
+pub or-false : (a b : Bool) → a || b ≡ false → (a ≡ false) × (b ≡ false)
+or-false true b e = absurd (true≢false e)
+or-false false b e = (refl, e)

@@ -1,2 +1,4 @@
 pub mod Refusals
 pub mod Length
+pub mod Accepted
+pub mod Signs

@@ -1,11 +1,15 @@
 -- Laws of refusals and answers. Assumes nothing.
-use Prim.Native.Nat.{ℕ}
-use mathlib.Core.Path.{_≡_, ap, sym}
-use mathlib.Core.Bool.{Bool, cond}
-use lib.Dec.{eqb}
+use Prim.Native.Nat.{ℕ, zero, suc, _≤_}
+use mathlib.Core.Path.{_≡_, refl, ap, sym}
+use mathlib.Core.Bool.{Bool, true, false, cond, _&&_}
+use mathlib.Core.List.{List, [], _∷_}
+use native.Mathlib.Omega.{arith}
+use lib.Dec.{T, eqb, leb, leb→le}
+use lib.ListN.{getD}
+use Rattle.lists.proofs.Truth.{left, right}
 use borrow.Author.Tests.{eq-eqb, ne-eqb}
-use Rattle.record.specs.Answer.{Answer, accepted, refused, unless}
-use Rattle.record.specs.Refusal.{_then_}
+use Rattle.record.specs.Answer.{accepted, refused, unless}
+use Rattle.record.specs.Refusal.{Check, first}
 
 -- the second refusal counts where the first is none
 pub then-none : (n m : ℕ) → n ≡ 0 → n then m ≡ m
@@ -27,3 +31,27 @@ module _ {A : Type 0} (n : ℕ) (empty v : A) where
 
   pub cond-some : (n ≡ 0 → ⊥) → cond (eqb n 0) v empty ≡ empty
   cond-some e = ap (λ (t : Bool). cond t v empty) (ne-eqb n 0 e)
+
+-- ## no refusal
+
+-- whether each check has a number of its own, so that 0 means none
+abbrev pub numbered : List Check → Bool
+numbered [] = true
+numbered (c ∷ cs) = leb 1 (c .number) && numbered cs
+
+abbrev pub noCheck : Check
+noCheck = 0 when false
+
+-- where the first that applies is none, no check applies
+head-none : (b : Bool) (n m : ℕ) → 1 ≤ n → cond b n m ≡ 0 → (b ≡ false) × (m ≡ 0)
+head-none true n m h e = absurd (let z : ⊥ = omega (arith, e) in z)
+head-none false n m h e = (refl, e)
+
+module _ (c : Check) (cs : List Check) (t : T (numbered (c ∷ cs))) (e : first (c ∷ cs) ≡ 0) where
+  here : (c .applies ≡ false) × (first cs ≡ 0)
+  here = head-none (c .applies) (c .number) (first cs) (leb→le 1 (c .number) (left (leb 1 (c .number)) (numbered cs) t)) e
+
+pub none-applies : (cs : List Check) (k : ℕ) → T (numbered cs) → first cs ≡ 0 → getD cs k noCheck .applies ≡ false
+none-applies [] k t e = refl
+none-applies (c ∷ cs) zero t e = here c cs t e .0
+none-applies (c ∷ cs) (suc k) t e = none-applies cs k (right (leb 1 (c .number)) (numbered cs) t) (here c cs t e .1)

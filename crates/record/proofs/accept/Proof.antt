@@ -7,25 +7,16 @@ use Rattle.record.specs.Record.{checks, recordRefusal}
 use borrow.Author.Needs.{needs}
 use Rattle.record.proofs.accept.Statement.{statement}
 use Rattle.record.proofs.accept.Tie as tie
-use Rattle.record.proofs.accept.Reads as reads
-use Rattle.record.proofs.accept.Lts as lts
-use Rattle.header.proofs.good_digits.Reads as good-digits-reads
-use Rattle.header.proofs.read_fields.Reads as read-fields-reads
-use Rattle.record.proofs.judge.Reads as judge-reads
 
--- src/lib.rt:123:9
 read-fields-requires : tie.Need-read-fields-requires
 read-fields-requires c κs = search needs
 
--- src/lib.rt:124:9
 good-digits-requires : tie.Need-good-digits-requires
 good-digits-requires c κs = search needs
 
--- src/lib.rt:121:5
 judge-requires : tie.Need-judge-requires
 judge-requires c κs = search needs
 
--- src/lib.rt:118:1
 returns : tie.Need-returns
 unfolding recordRefusal
 returns c =

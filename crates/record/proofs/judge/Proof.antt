@@ -6,15 +6,10 @@ use mathlib.Core.List.{[], _∷_}
 use lib.Dec.{eqb, ltb}
 use Rattle.header.specs.declared.Header.{Header}
 use Rattle.rates.specs.declared.Rate.{Rate}
-use Rattle.record.specs.Refusal.{_when_, first}
+use Rattle.record.specs.Refusal.{first}
 use borrow.Author.Needs.{needs}
 use Rattle.record.proofs.judge.Statement.{statement}
 use Rattle.record.proofs.judge.Tie as tie
-use Rattle.record.proofs.judge.Reads as reads
-use Rattle.record.proofs.judge.Lts as lts
-use Rattle.rates.proofs.rate_of.Reads as rate-of-reads
-use Rattle.record.proofs.first_of.Reads as first-of-reads
-use Rattle.record.proofs.wrong_length.Reads as wrong-length-reads
 
 -- the code's checks, over the line of the rate and the test of the length
 abbrev judged : Rate → Bool → ℕ → Header → Bool → ℕ
@@ -33,19 +28,15 @@ judged rate length n h decimals =
     ∷ 11 when (eqb (h .«clock_origin») 1 && not (eqb (h .«sync_word») 42330))
     ∷ [])
 
--- src/lib.rt:100:9
 rate-of-requires : tie.Need-rate-of-requires
 rate-of-requires c κs = search needs
 
--- src/lib.rt:104:9
 wrong-length-requires : tie.Need-wrong-length-requires
 wrong-length-requires c κs = search needs
 
--- src/lib.rt:102:5
 first-of-requires : tie.Need-first-of-requires
 first-of-requires c κs = search needs
 
--- src/lib.rt:97:1
 returns : tie.Need-returns
 returns c =
     let w = c .before .before .before .before .before .before .before .before .before .before .before .before .before .before .before in

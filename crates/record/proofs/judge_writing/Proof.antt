@@ -7,27 +7,19 @@ use Rattle.fields.specs.Field.{decimalFits, binaryFits}
 use Rattle.fields.specs.Table.{allFit}
 use Rattle.header.specs.Format.{fields}
 use Rattle.header.specs.Header.{values}
-use Rattle.record.specs.Refusal.{_when_, first}
+use Rattle.record.specs.Refusal.{first}
 use Rattle.record.specs.Record.{checks, writeRefusal}
 use Rattle.record.proofs.Refusals.{then-none, then-some}
 use borrow.Author.Needs.{needs}
 use Rattle.record.proofs.judge_writing.Statement.{statement}
 use Rattle.record.proofs.judge_writing.Tie as tie
-use Rattle.record.proofs.judge_writing.Reads as reads
-use Rattle.record.proofs.judge_writing.Lts as lts
-use Rattle.header.proofs.binaries_fit.Reads as binaries-fit-reads
-use Rattle.header.proofs.decimals_fit.Reads as decimals-fit-reads
-use Rattle.record.proofs.judge.Reads as judge-reads
 
--- src/lib.rt:144:29
 decimals-fit-requires : tie.Need-decimals-fit-requires
 decimals-fit-requires c κs = search needs
 
--- src/lib.rt:144:9
 judge-requires : tie.Need-judge-requires
 judge-requires c κs = search needs
 
--- src/lib.rt:146:9
 returns : tie.Need-returns
 unfolding writeRefusal
 returns c =
@@ -38,11 +30,9 @@ returns c =
     let w : ℕ = first (22 when not (allFit binaryFits fields (values (a .h))) ∷ []) in
     e ∙ sym (then-some _ w (λ z. c .if1 .taken (e ∙ z)))
 
--- src/lib.rt:148:8
 binaries-fit-requires : tie.Need-binaries-fit-requires
 binaries-fit-requires c κs = search needs
 
--- src/lib.rt:149:9
 returns-2 : tie.Need-returns-2
 unfolding writeRefusal
 returns-2 c =
@@ -54,7 +44,6 @@ returns-2 c =
     let good = sym (c .before .binaries-fit .ensures) ∙ c .if2 .taken in
     sym (then-none _ w (sym e ∙ c .before .before .if1 .left) ∙ ap (λ (t : Bool). first (22 when not t ∷ [])) good)
 
--- src/lib.rt:141:1
 returns-3 : tie.Need-returns-3
 unfolding writeRefusal
 returns-3 c =

@@ -15,25 +15,16 @@ use Rattle.record.proofs.Refusals.{unless-none, unless-some}
 use borrow.Author.Needs.{needs}
 use Rattle.record.proofs.read_header.Statement.{statement}
 use Rattle.record.proofs.read_header.Tie as tie
-use Rattle.record.proofs.read_header.Reads as reads
-use Rattle.record.proofs.read_header.Lts as lts
-use Rattle.header.proofs.good_digits.Reads as good-digits-reads
-use Rattle.header.proofs.read_fields.Reads as read-fields-reads
-use Rattle.record.proofs.judge.Reads as judge-reads
 
--- src/lib.rt:132:9
 read-fields-requires : tie.Need-read-fields-requires
 read-fields-requires c κs = search needs
 
--- src/lib.rt:133:35
 good-digits-requires : tie.Need-good-digits-requires
 good-digits-requires c κs = search needs
 
--- src/lib.rt:133:9
 judge-requires : tie.Need-judge-requires
 judge-requires c κs = search needs
 
--- src/lib.rt:135:9
 returns : tie.Need-returns
 unfolding recordRefusal headerAnswer
 returns c =
@@ -45,7 +36,6 @@ returns c =
     ap (λ (v : List ℕ). accepted v) (ap values (g .before .read-fields .ensures) ∙ values-header b)
     ∙ unless-none (recordRefusal b) [] (readAll fields b) (sym e ∙ c .if1 .taken)
 
--- src/lib.rt:129:1
 returns-2 : tie.Need-returns-2
 unfolding recordRefusal headerAnswer
 returns-2 c =

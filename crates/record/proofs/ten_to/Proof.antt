@@ -8,8 +8,6 @@ use lib.Dec.{lit<}
 use borrow.Author.Needs.{needs}
 use Rattle.record.proofs.ten_to.Statement.{statement}
 use Rattle.record.proofs.ten_to.Tie as tie
-use Rattle.record.proofs.ten_to.Reads as reads
-use Rattle.record.proofs.ten_to.Lts as lts
 
 power-more : (k : ℕ) → 10 ^ (k + 1) ≡ 10 ^ k * 10
 power-more k = ap (λ (n : ℕ). 10 ^ n) (add-one k) ∙ pow-suc 10 k
@@ -23,27 +21,21 @@ Inv-loop power x₀ k₀ x k = (k ≤ power) × (x ≡ 10 ^ k)
 abbrev μ-loop : tie.MeasureT-loop
 μ-loop power x₀ k₀ x k = power - k
 
--- src/lib.rt:174:5
 loop-holds : tie.Need-loop-holds Inv-loop μ-loop
 loop-holds c = (search needs, refl)
 
--- src/lib.rt:175:13
 mul-x : tie.Need-mul-x Inv-loop μ-loop
 mul-x c = omega (arith, seven-at-most (c .before .loop .k) (omega arith))
 
--- src/lib.rt:176:9
 add-k : tie.Need-add-k Inv-loop μ-loop
 add-k c = search needs
 
--- src/lib.rt:174:5
 loop-less : tie.Need-loop-less Inv-loop μ-loop
 loop-less c = search needs
 
--- src/lib.rt:174:5
 loop-again : tie.Need-loop-again Inv-loop μ-loop
 loop-again c = (search needs, omega (arith, power-more (c .before .loop .k)))
 
--- src/lib.rt:168:1
 returns : tie.Need-returns Inv-loop μ-loop
 returns c = let e : c .before .loop .k ≡ c .before .before .args .power = omega arith in (c .before .loop .inv .1 ∙ ap (λ (n : ℕ). 10 ^ n) e, omega (arith, seven-at-most (c .before .loop .k) (omega arith)))
 

@@ -10,24 +10,16 @@ use Rattle.record.proofs.Refusals.{cond-none, cond-some}
 use borrow.Author.Needs.{needs}
 use Rattle.record.proofs.write_header.Statement.{statement}
 use Rattle.record.proofs.write_header.Tie as tie
-use Rattle.record.proofs.write_header.Reads as reads
-use Rattle.record.proofs.write_header.Lts as lts
-use Rattle.header.proofs.write_fields.Reads as write-fields-reads
-use Rattle.record.proofs.judge_writing.Reads as judge-writing-reads
 
--- src/lib.rt:159:9
 judge-writing-requires : tie.Need-judge-writing-requires
 judge-writing-requires c κs = search needs
 
--- src/lib.rt:161:9
 write-fields-requires : tie.Need-write-fields-requires
 write-fields-requires c κs = search needs
 
--- src/lib.rt:162:9
 same-length : tie.Need-same-length
 same-length c = search needs
 
--- src/lib.rt:162:9
 returns : tie.Need-returns
 unfolding afterWriting
 returns c =
@@ -38,7 +30,6 @@ returns c =
     let e = sym (t .before .judge-writing .ensures) ∙ t .if1 .taken in
     (sym e, w .write-fields .ensures ∙ sym (cond-none (writeRefusal (length b) (a .h)) b (writeAll fields (values (a .h)) b) e))
 
--- src/lib.rt:155:1
 returns-2 : tie.Need-returns-2
 unfolding afterWriting
 returns-2 c =

@@ -2,10 +2,7 @@
 use Rattle.record.proofs.Length.{halves}
 use Rattle.record.proofs.wrong_length.Statement.{statement}
 use Rattle.record.proofs.wrong_length.Tie as tie
-use Rattle.record.proofs.wrong_length.Reads as reads
-use Rattle.record.proofs.wrong_length.Lts as lts
 
--- src/lib.rt:37:1
 returns : tie.Need-returns
 returns c = halves (c .args .bytes) (c .args .words)
 

@@ -1,0 +1,46 @@
+-- The signed size of a frequency rate. Assumes nothing.
+use Prim.Native.Nat.{ℕ, zero, suc, _*_, _^_, _≤_, _<_}
+use mathlib.Core.Path.{_≡_, ap, sym, _∙_, subst}
+use mathlib.Core.Bool.{Bool, cond}
+use native.Mathlib.Nat.{mul-le-mul}
+use native.Mathlib.Omega.{arith}
+use lib.Dec.{eqb}
+use lib.IntN.{ℤ, pos, negℤ, _-ℤ_, +ℤ-idl}
+use mir.Syntax.{w64}
+use mir.Val.{SFits, toZ, ofZ}
+use mir.ValLaws.{toZ-pos, toZ-ofZ}
+use borrow.Author.Tests.{eq-eqb, ne-eqb}
+use Rattle.record.specs.FrequencyRate.{rateUnits}
+
+-- five digits times a power of ten below 8
+pub size-bound : (d t : ℕ) → d < 100000 → t ≤ 10000000 → d * t ≤ 999990000000
+size-bound d t p q = mul-le-mul {n₁ = d} {m₁ = t} {n₂ = 99999} {m₂ = 10000000} (omega arith) q
+
+negative-fits : (x : ℕ) → x ≤ 999990000000 → SFits w64 (negℤ (pos x))
+negative-fits zero h = record { sfits = omega arith }
+negative-fits (suc x) h = record { sfits = omega arith }
+
+module _ (x : ℕ) (h : x ≤ 999990000000) where
+  pub positive : toZ w64 x ≡ pos x
+  positive = toZ-pos w64 x (omega arith)
+
+  minus : pos 0 -ℤ toZ w64 x ≡ negℤ (pos x)
+  minus = ap (λ (z : ℤ). pos 0 -ℤ z) positive ∙ +ℤ-idl (negℤ (pos x))
+
+  pub minus-fits : SFits w64 (pos 0 -ℤ toZ w64 x)
+  minus-fits = subst (SFits w64) (sym minus) (negative-fits x h)
+
+  pub negative : toZ w64 (ofZ w64 (pos 0 -ℤ toZ w64 x)) ≡ negℤ (pos x)
+  negative = toZ-ofZ w64 (pos 0 -ℤ toZ w64 x) minus-fits ∙ minus
+
+-- by the sign bit
+module _ (d m s t : ℕ) (e : t ≡ 10 ^ m) where
+  shown : (b : Bool) → eqb s 1 ≡ b → cond b (pos (d * t)) (negℤ (pos (d * t))) ≡ rateUnits d m s
+  unfolding rateUnits
+  shown b a = (λ i. cond (sym a i) (pos (d * e i)) (negℤ (pos (d * e i))))
+
+  pub units-positive : s ≡ 1 → pos (d * t) ≡ rateUnits d m s
+  units-positive a = shown _ (eq-eqb s 1 a)
+
+  pub units-negative : (s ≡ 1 → ⊥) → negℤ (pos (d * t)) ≡ rateUnits d m s
+  units-negative a = shown _ (ne-eqb s 1 a)
