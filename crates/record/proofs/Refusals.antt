@@ -9,7 +9,7 @@ use lib.ListN.{getD}
 use Rattle.lists.proofs.Truth.{left, right}
 use borrow.Author.Tests.{eq-eqb, ne-eqb}
 use Rattle.record.specs.Answer.{accepted, refused, unless}
-use Rattle.record.specs.Refusal.{Check, first}
+use Rattle.record.specs.Refusal.{Check, _when_, first, _then_}
 
 -- the second refusal counts where the first is none
 pub then-none : (n m : ℕ) → n ≡ 0 → n then m ≡ m

@@ -6,7 +6,7 @@ use mathlib.Core.List.{[], _∷_}
 use lib.Dec.{eqb, ltb}
 use Rattle.header.specs.declared.Header.{Header}
 use Rattle.rates.specs.declared.Rate.{Rate}
-use Rattle.record.specs.Refusal.{first}
+use Rattle.record.specs.Refusal.{_when_, first}
 use borrow.Author.Needs.{needs}
 use Rattle.record.proofs.judge.Statement.{statement}
 use Rattle.record.proofs.judge.Tie as tie

@@ -7,7 +7,7 @@ use Rattle.fields.specs.Field.{decimalFits, binaryFits}
 use Rattle.fields.specs.Table.{allFit}
 use Rattle.header.specs.Format.{fields}
 use Rattle.header.specs.Header.{values}
-use Rattle.record.specs.Refusal.{first}
+use Rattle.record.specs.Refusal.{_when_, first}
 use Rattle.record.specs.Record.{checks, writeRefusal}
 use Rattle.record.proofs.Refusals.{then-none, then-some}
 use borrow.Author.Needs.{needs}
