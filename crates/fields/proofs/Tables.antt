@@ -13,7 +13,6 @@ use lib.Seq.{drop-cons}
 use native.Mathlib.Numerals.{add-one}
 use Rattle.lists.proofs.Truth.{left, right, both, either, and-true, and-assoc}
 use Rattle.bits.specs.Bits.{bitAt}
-use Rattle.bits.proofs.Bits.{byte-num, num-ext}
 use Rattle.fields.specs.declared.Field.{Field}
 use Rattle.fields.specs.Field.{none, start, width, valueOf, withValue, digitsGood, decimalFits, binaryFits, Readable, readable}
 use Rattle.fields.specs.Table.{readAll, writeAll, allDigitsGood, allFit, apart, allApart, sound, unnamed}
@@ -162,17 +161,9 @@ bits-kept [] vs b i u = refl
 bits-kept (f ∷ fs) [] b i u = refl
 bits-kept (f ∷ fs) (v ∷ vs) b i u = bits-kept fs vs (withValue f v b) i (u .1) ∙ bit-other f v b i (u .0)
 
-past-unnamed : (n : ℕ) (fs : List Field) (i : ℕ) → T (sound n fs) → n ≤ i → unnamed i fs
+pub past-unnamed : (n : ℕ) (fs : List Field) (i : ℕ) → T (sound n fs) → n ≤ i → unnamed i fs
 past-unnamed n [] i t h = tt
 past-unnamed n (f ∷ fs) i t h = (inr (omega (arith, sound-inside n f fs t)), past-unnamed n fs i (sound-rest n f fs t) h)
-
--- and so are the bytes past the table
-pub bytes-kept : (n : ℕ) (fs : List Field) (vs b : List ℕ) (k : ℕ) → T (sound n fs) → n ≤ 8 * k
-    → getD b k 0 < 256 → getD (writeAll fs vs b) k 0 < 256 → getD (writeAll fs vs b) k 0 ≡ getD b k 0
-bytes-kept n fs vs b k t h p q =
-    sym (byte-num (writeAll fs vs b) k q)
-    ∙ num-ext (bitAt (writeAll fs vs b)) (bitAt b) (8 * k) 8 (λ i l u. bits-kept fs vs b i (past-unnamed n fs i t (omega arith)))
-    ∙ byte-num b k p
 
 -- ## loops over a table, row by row
 

@@ -2,3 +2,4 @@ pub mod Refusals
 pub mod Length
 pub mod Accepted
 pub mod Signs
+pub mod RoundTrip

@@ -7,7 +7,7 @@ use native.Mathlib.Omega.{arith}
 use lib.Dec.{T, eqb, leb, leb→le}
 use lib.ListN.{getD}
 use Rattle.lists.proofs.Truth.{left, right}
-use borrow.Author.Tests.{eq-eqb, ne-eqb}
+use borrow.Author.Tests.{eq-eqb, ne-eqb, eqb-true, eqb-false}
 use Rattle.record.specs.Answer.{accepted, refused, unless}
 use Rattle.record.specs.Refusal.{Check, _when_, first, _then_}
 
@@ -17,6 +17,14 @@ then-none n m e = ap (λ (t : Bool). cond t m n) (eq-eqb n 0 e)
 
 pub then-some : (n m : ℕ) → (n ≡ 0 → ⊥) → n then m ≡ n
 then-some n m e = ap (λ (t : Bool). cond t m n) (ne-eqb n 0 e)
+
+-- where both are none
+pub then-zero : (n m : ℕ) → n then m ≡ 0 → (n ≡ 0) × (m ≡ 0)
+then-zero n m e = by-test (eqb n 0) refl e
+  where
+    by-test : (t : Bool) → eqb n 0 ≡ t → cond t m n ≡ 0 → (n ≡ 0) × (m ≡ 0)
+    by-test true a z = (eqb-true n 0 a, z)
+    by-test false a z = absurd (eqb-false n 0 a z)
 
 module _ {A : Type 0} (n : ℕ) (empty v : A) where
   pub unless-none : n ≡ 0 → accepted v ≡ unless n empty v
