@@ -1,0 +1,58 @@
+// 01's "Values worked by hand" that are not marked P, run on the library: each line says what was asked and the refusal number,
+// 0 for none. Those marked P are proved in crate `worked`.
+use libc::STDOUT_FILENO;
+
+// A word of the record, counted from 1, gets its value.
+fn set_word(bytes: &mut [u8; 780], word: usize, value: u16) {
+    if word > 390 {
+        return;
+    }
+    if word == 0 {
+        return;
+    }
+    let at = 2 * (word - 1);
+    bytes[at] = (value / 256) as u8;
+    bytes[at + 1] = (value % 256) as u8;
+}
+
+// 01's lister case: an accepted record of 390 words at 200 samples a second.
+fn lister_case() -> [u8; 780] {
+    let mut bytes = [0u8; 780];
+    set_word(&mut bytes, 1, 0x8101);
+    set_word(&mut bytes, 2, 0x0001);
+    set_word(&mut bytes, 3, 0x0186);
+    set_word(&mut bytes, 6, 0xAC18);
+    set_word(&mut bytes, 7, 0x0293);
+    set_word(&mut bytes, 8, 0x2E00);
+    set_word(&mut bytes, 16, 0x4200);
+    set_word(&mut bytes, 26, 0x0012);
+    set_word(&mut bytes, 27, 0x3452);
+    set_word(&mut bytes, 37, 0x00C8);
+    set_word(&mut bytes, 38, 0xA55A);
+    bytes
+}
+
+fn print_line(asked: &[u8], number: u8) {
+    io::write_all(STDOUT_FILENO, asked);
+    io::print_decimal(STDOUT_FILENO, number as u64);
+    io::write_all(STDOUT_FILENO, b"\n");
+}
+
+fn refusal_of(bytes: &[u8; 780]) -> u8 {
+    record::accept(bytes)
+}
+
+// Word 6 holds the year in its first seven bits and the day in the other nine.
+fn date_refusal(date: u16) -> u8 {
+    let mut bytes = lister_case();
+    set_word(&mut bytes, 6, date);
+    refusal_of(&bytes)
+}
+
+fn main() {
+    let bytes = lister_case();
+    print_line(b"the lister's case: ", record::accept(&bytes));
+    print_line(b"79 bytes: ", record::accept(&bytes[0..79]));
+    print_line(b"day 366 of year 84: ", date_refusal(84 * 512 + 366));
+    print_line(b"day 367 of year 84: ", date_refusal(84 * 512 + 367));
+}
