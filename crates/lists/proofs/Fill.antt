@@ -1,7 +1,7 @@
 -- A loop that fills a buffer by a rule, one entry after the other: `Filled` is its invariant. Assumes nothing.
 use Prim.Native.Nat.{ℕ, zero, suc, _+_, _-_, _≤_, _<_}
 use mathlib.Core.Path.{_≡_, refl, ap, sym, _∙_, subst}
-use mathlib.Core.List.{List, _++_}
+use mathlib.Core.List.{List, [], _∷_, _++_}
 use mathlib.Core.Logic.{⊎-elim}
 use native.Mathlib.Nat.{add-zero, add-suc, suc-add, le-of-suc-le-suc, not-suc-le-zero, zero-add}
 use native.Mathlib.Omega.{arith}
@@ -28,6 +28,12 @@ module _ {A : Type 0} where
   tab-ext f n d l e h =
       ext-getD d l (tab f 0 n) (e ∙ sym (length-tab f 0 n))
       (λ i q. let q' : i < n = omega (arith, e) in h i q' ∙ sym (getD-tab f n i d q'))
+
+  -- one entry more at the end
+  pub tab-more : (f : ℕ → A) (k n : ℕ) → tab f k (suc n) ≡ tab f k n ++ f (k + n) ∷ []
+  tab-more f k zero = ap (λ (j : ℕ). f j ∷ []) (sym (add-zero k))
+  tab-more f k (suc n) =
+      ap (λ (l : List A). f k ∷ l) (tab-more f (suc k) n ∙ ap (λ (j : ℕ). tab f (suc k) n ++ f j ∷ []) (suc-add k n ∙ sym (add-suc k n)))
 
   -- l is b with its first n entries by the rule
   pub record Filled (b : List A) (f : ℕ → A) (d : A) (n : ℕ) (l : List A) : Type 0 where

@@ -8,8 +8,10 @@ use Rattle.header.specs.Header.{headerOf}
 use Rattle.rates.specs.Rates.{rateOf, lineIn}
 use Rattle.record.specs.Record.{recordRefusal, headerAnswer}
 use Rattle.record.specs.FrequencyRate.{rateUnits, rateAnswer}
+use Rattle.channels.specs.Sample.{signedOf}
+use Rattle.totals.specs.Total.{sumOf, squaresOf, lesser, greater, keptOf, totalOf}
 use Rattle.worked.specs.Cases.{cases, given, said}
 
 pub worked : map given cases ≡ map said cases
-unfolding getBits num bitAt decimal digits valueOf digitsGood headerOf rateOf lineIn recordRefusal headerAnswer rateUnits rateAnswer
+unfolding getBits num bitAt decimal digits valueOf digitsGood headerOf rateOf lineIn recordRefusal headerAnswer rateUnits rateAnswer signedOf sumOf squaresOf lesser greater keptOf totalOf
 worked = refl

@@ -6,6 +6,9 @@ use lib.ListN.{getD}
 use Rattle.record.specs.Answer.{Answer}
 use Rattle.record.specs.Record.{recordRefusal, headerAnswer}
 use Rattle.record.specs.FrequencyRate.{rateAnswer}
+use Rattle.channels.specs.Sample.{signedOf}
+use Rattle.totals.specs.declared.Total.{Total}
+use Rattle.totals.specs.Total.{totalOf}
 use Rattle.worked.specs.Bytes.{Word, _is_, bytesFrom}
 
 -- the record of 01's lister case: 390 words, zero but for these (hex 8101, 0001, 0186, AC18, 0293, 2E00, 4200, 0012, 3452,
@@ -45,6 +48,10 @@ shownℤ a = pos (a .number) ∷ a .value ∷ []
 abbrev pub shownField : ℕ → List ℕ → List ℤ
 shownField k b = pos (headerAnswer b .number) ∷ pos (getD (headerAnswer b .value) k 0) ∷ []
 
+-- sum, squares, least and greatest
+abbrev pub shownTotal : Total → List ℤ
+shownTotal t = t .sum ∷ pos (t .squares) ∷ t .least ∷ t .greatest ∷ []
+
 -- both sides of a case
 abbrev pub given : Case → List ℤ
 given c = c .gives
@@ -69,4 +76,8 @@ cases =
     -- time tags 86,399,999 and 86,400,000 (hex 0526 5BFF and 0526 5C00)
     ∷ ((pos (recordRefusal (caseWith (7 is 1318 ∷ 8 is 23551 ∷ []))) ∷ []) against (pos 0 ∷ []))
     ∷ ((pos (recordRefusal (caseWith (7 is 1318 ∷ 8 is 23552 ∷ []))) ∷ []) against (pos 9 ∷ []))
+    -- bytes 80, 7F and FF hex
+    ∷ ((signedOf 128 ∷ signedOf 127 ∷ signedOf 255 ∷ []) against (negℤ (pos 128) ∷ pos 127 ∷ negℤ (pos 1) ∷ []))
+    -- the total of samples 3 and -4
+    ∷ (shownTotal (totalOf (pos 3 ∷ negℤ (pos 4) ∷ [])) against (negℤ (pos 1) ∷ pos 25 ∷ negℤ (pos 4) ∷ pos 3 ∷ []))
     ∷ []

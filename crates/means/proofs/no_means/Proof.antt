@@ -1,0 +1,12 @@
+-- `means::no_means` meets its contract. Assumes nothing.
+use mathlib.Core.Path.{refl}
+use lib.Ieee.{ofBits}
+use Rattle.means.proofs.no_means.Statement.{statement}
+use Rattle.means.proofs.no_means.Tie as tie
+
+returns : tie.Need-returns
+unfolding ofBits
+returns c = refl
+
+pub no-means-spec : {M : Type 1} → statement M
+no-means-spec = tie.close (tie.spec returns)

@@ -1,0 +1,56 @@
+-- Signed numbers: their size, their squares, and how the code's bits show them. Assumes nothing.
+use mathlib.Core.Path.{_≡_, refl, sym, ap, _∙_, subst}
+use mathlib.Core.Bool.{Bool, true, false, cond}
+use Prim.Native.Nat.{ℕ, suc, _+_, _-_, _*_, _≤_, _<_}
+use native.Mathlib.Nat.{mul-le-mul}
+use native.Mathlib.Omega.{arith}
+use lib.IntN.{ℤ, pos, negsuc, natAbs, subℕ, _+ℤ_, _*ℤ_}
+use lib.Signed.{mag, ltZ}
+use lib.Dec.{T, ltb, ltb→lt}
+use mir.Syntax.{Width, w8, w32}
+use mir.Val.{SFits, toZ, ofZ}
+use mir.Facts.{toZ-ofZ}
+
+pub mag≤abs : (z : ℤ) → mag z ≤ natAbs z
+mag≤abs (pos n) = omega arith
+mag≤abs (negsuc n) = omega arith
+
+pub abs≤mag : (z : ℤ) → natAbs z ≤ mag z + 1
+abs≤mag (pos n) = omega arith
+abs≤mag (negsuc n) = omega arith
+
+-- a signed byte is at most 128 in size, and its square at most 16,384
+pub byte-abs : {z : ℤ} → SFits w8 z → natAbs z ≤ 128
+byte-abs {z} h = omega (arith, abs≤mag z)
+
+pub byte-square : {z : ℤ} → SFits w8 z → natAbs z * natAbs z ≤ 16384
+byte-square h = mul-le-mul (byte-abs h) (byte-abs h)
+
+sub-abs : (a b : ℕ) → natAbs (subℕ a b) ≤ a + b
+sub-abs a b = go (ltb a b) (ltb→lt a b)
+  where
+    go : (t : Bool) → (T t → a < b) → natAbs (cond t (negsuc (b - suc a)) (pos (a - b))) ≤ a + b
+    go true h = omega (arith, h tt)
+    go false h = omega arith
+
+pub abs-sum : (a b : ℤ) → natAbs (a +ℤ b) ≤ natAbs a + natAbs b
+abs-sum (pos a) (pos b) = omega arith
+abs-sum (pos a) (negsuc b) = sub-abs a (suc b)
+abs-sum (negsuc a) (pos b) = omega (arith, sub-abs b (suc a))
+abs-sum (negsuc a) (negsuc b) = omega arith
+
+pub square : (z : ℤ) → z *ℤ z ≡ pos (natAbs z * natAbs z)
+square (pos n) = refl
+square (negsuc n) = refl
+
+-- the code's square of a signed byte fits its 32 bits
+pub square-fits : {z : ℤ} → SFits w8 z → SFits w32 (z *ℤ z)
+square-fits {z} h = subst (SFits w32) (sym (square z)) (record { sfits = omega (arith, byte-square h) })
+
+-- a byte widened, as the code has it
+pub widens : (w : Width) {z : ℤ} → SFits w z → SFits w8 z → toZ w (ofZ w (toZ w8 (ofZ w8 z))) ≡ z
+widens w {z} k h = ap (λ (y : ℤ). toZ w (ofZ w y)) (toZ-ofZ h) ∙ toZ-ofZ k
+
+-- a test of two numbers' bits is the test of the numbers
+pub tested : {a b : ℤ} {t : Bool} → SFits w8 a → SFits w8 b → ltZ (toZ w8 (ofZ w8 a)) (toZ w8 (ofZ w8 b)) ≡ t → ltZ a b ≡ t
+tested {a} {b} ha hb e = rw (toZ-ofZ ha, toZ-ofZ hb) at e

@@ -1,0 +1,48 @@
+-- A channel's total over its samples, and the four channels' totals (01, "The book": "for each channel sum, sum of squares,
+-- least and greatest over all samples"; no samples: 0 throughout).
+use Prim.Native.Nat.{ℕ, _+_, _*_}
+use mathlib.Core.Bool.{cond}
+use mathlib.Core.List.{List, [], _∷_, foldl}
+use lib.IntN.{ℤ, pos, natAbs, _+ℤ_}
+use lib.Signed.{ltZ}
+use Rattle.lists.specs.Fill.{tab}
+use Rattle.totals.specs.declared.Total.{Total}
+use Rattle.channels.specs.Sample.{samplesOf}
+
+unfoldable pub sumOf : List ℤ → ℤ
+sumOf [] = pos 0
+sumOf (x ∷ samples) = x +ℤ sumOf samples
+
+unfoldable pub squaresOf : List ℤ → ℕ
+squaresOf [] = 0
+squaresOf (x ∷ samples) = natAbs x * natAbs x + squaresOf samples
+
+-- the lesser and the greater of two numbers
+unfoldable pub lesser : ℤ → ℤ → ℤ
+lesser a b = cond (ltZ a b) a b
+
+unfoldable pub greater : ℤ → ℤ → ℤ
+greater a b = cond (ltZ b a) a b
+
+-- the sample that a rule for two numbers keeps, of all of them in turn; 0 for no samples
+unfoldable pub keptOf : (ℤ → ℤ → ℤ) → List ℤ → ℤ
+keptOf rule [] = pos 0
+keptOf rule (x ∷ samples) = foldl rule x samples
+
+abbrev pub leastOf : List ℤ → ℤ
+leastOf samples = keptOf lesser samples
+
+abbrev pub greatestOf : List ℤ → ℤ
+greatestOf samples = keptOf greater samples
+
+unfoldable pub totalOf : List ℤ → Total
+totalOf samples =
+    record { sum = sumOf samples; squares = squaresOf samples; least = leastOf samples; greatest = greatestOf samples }
+
+-- the total of no samples
+abbrev pub noTotal : Total
+noTotal = record { sum = pos 0; squares = 0; least = pos 0; greatest = pos 0 }
+
+-- the totals of channels 1 to 4 over the first n samples of each
+unfoldable pub totalsOf : List ℕ → ℕ → List Total
+totalsOf stretch n = tab (λ (channel : ℕ). totalOf (samplesOf stretch channel n)) 1 4
