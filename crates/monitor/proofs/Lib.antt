@@ -1,0 +1,4 @@
+pub mod Segments
+pub mod Monitor
+pub mod Answers
+pub mod Places

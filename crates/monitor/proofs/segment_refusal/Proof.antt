@@ -1,0 +1,41 @@
+-- The number at the place that was found. Assumes nothing.
+use Prim.Native.Nat.{ℕ}
+use mathlib.Core.Path.{ap}
+use mathlib.Core.List.{List}
+use Rattle.record.specs.Answer.{Answer}
+use Rattle.monitor.proofs.Places.{shown-at}
+use borrow.Author.Needs.{needs}
+use Rattle.monitor.proofs.segment_refusal.Statement.{statement}
+use Rattle.monitor.proofs.segment_refusal.Tie as tie
+
+find-place-requires : tie.Need-find-place-requires
+find-place-requires c κs = search needs
+
+enum-told : tie.Need-enum-told
+enum-told c = search needs
+
+enum-told-2 : tie.Need-enum-told-2
+enum-told-2 c = search needs
+
+enum-known-n : tie.Need-enum-known-n
+enum-known-n c = search needs
+
+returns : tie.Need-returns
+returns c =
+    let f = c .before .before in
+    ap (λ (x : Answer (List ℕ)). x .number) (shown-at _ _ (c .enum-told .given .1) (f .find-place .ensures .0))
+
+returns-2 : tie.Need-returns-2
+returns-2 c =
+    let f = c .before .before in
+    ap (λ (x : Answer (List ℕ)). x .number) (shown-at _ _ (c .enum-told2 .given .1) (f .find-place .ensures .0))
+
+returns-3 : tie.Need-returns-3
+returns-3 c =
+    let f = c .before .before .before in
+    ap (λ (x : Answer (List ℕ)). x .number) (shown-at _ _ (c .before .n .given .1) (f .find-place .ensures .0))
+
+pub segment-refusal-spec : {M : Type 1} → statement M
+segment-refusal-spec =
+    tie.close
+    (tie.spec find-place-requires enum-told enum-told-2 enum-known-n returns returns-2 returns-3)

@@ -1,0 +1,151 @@
+// The segments of the power monitor, and which of two records has new data of one. 01: "Monitor words after N" and "A
+// segment question takes two records, this and an earlier one".
+ghost use mathlib.Core.Path.{_≡_};
+ghost use Prim.Native.Nat.{_+_, _*_, _≤_, _<_};
+ghost use lib.ListN.{length};
+ghost use Rattle.record.specs.Record.{recordRefusal};
+ghost use Rattle.monitor.specs.Segments.{rowOf, segmentAt, SoundWords};
+ghost use Rattle.monitor.specs.Monitor.{lastSampleWordOf, rowAnswer, segmentAnswer};
+ghost use Rattle.monitor.specs.Shown.{StretchOf, shownPlace, Inside};
+
+// A row of the table: a segment's number, and its first and last word, counted from 1 after the samples.
+struct SegmentWords(u64, usize, usize);
+
+const SEGMENT_COUNT: usize = 7;
+
+// In the order of the status bits.
+const SEGMENTS: [SegmentWords; 7] = [
+    SegmentWords(7, 6, 50),
+    SegmentWords(5, 51, 63),
+    SegmentWords(2, 64, 78),
+    SegmentWords(6, 79, 93),
+    SegmentWords(10, 94, 108),
+    SegmentWords(4, 109, 128),
+    SegmentWords(8, 129, 148),
+];
+
+// A segment in one record: from byte `start` up to byte `end`, and whether the status bit says new data.
+struct Stretch {
+    start: usize,
+    end: usize,
+    new: bool,
+}
+
+// Where a segment's bytes are: in this record or in the earlier one, or the refusal.
+enum Place {
+    This { start: usize, end: usize },
+    Earlier { start: usize, end: usize },
+    Refused(u8),
+}
+
+// A row of the table; its words are among the 150.
+fn words_of(row: usize) -> SegmentWords
+    requires { ⌜ row < 7 ⌝ }
+    ensures { λ r. ⌜ (r ≡ segmentAt row) × SoundWords r ⌝ }
+{
+    SEGMENTS[row]
+}
+
+// The table's row, from 0, of a segment's number, or the count of rows where none has it.
+fn row_of(number: u64) -> usize
+    ensures { λ r. ⌜ (r ≡ rowOf number) × (r ≤ 7) ⌝ }
+{
+    let mut row: usize = 0;
+    while row < SEGMENT_COUNT {
+        let words = words_of(row);
+        if words.0 == number {
+            return row;
+        }
+        row += 1;
+    }
+    row
+}
+
+// The last word of the samples of an accepted record; the 150 monitor words after it lie in the record.
+fn last_sample_word(bytes: &[u8]) -> usize
+    requires { ⌜ recordRefusal (now bytes) ≡ 0 ⌝ }
+    ensures { λ r. ⌜ (r ≡ lastSampleWordOf (now (bytes .entry))) × (r ≤ 2040) × (2 * r + 300 ≤ length (now (bytes .entry))) ⌝ }
+{
+    let h = header::read_fields(bytes);
+    let rate = rates::rate_of(h.sample_rate_hz);
+    rate.3 as usize
+}
+
+// The segment of a row in an accepted record. The first word after the samples is the status, whose bit 1 is row 0's.
+fn stretch_in(bytes: &[u8], row: usize) -> Stretch
+    requires { ⌜ (recordRefusal (now bytes) ≡ 0) × (row < 7) ⌝ }
+    ensures { λ r. ⌜ StretchOf (now (bytes .entry)) row r ⌝ }
+{
+    let last_word = last_sample_word(bytes);
+    let words = words_of(row);
+    let start = 2 * (last_word + words.1 - 1);
+    let end = start + 2 * (words.2 + 1 - words.1);
+    let status_bit = row + 1;
+    let new = bits::read_bits(bytes, 16 * last_word + status_bit - 1, 1) == 1;
+    Stretch { start, end, new }
+}
+
+// The segment of a row, from this record if it is new there, else from the earlier one; both are accepted.
+fn choose_record(this: &[u8], earlier: &[u8], row: usize) -> Place
+    requires { ⌜ (recordRefusal (now this) ≡ 0) × (recordRefusal (now earlier) ≡ 0) × (row < 7) ⌝ }
+    ensures { λ r. ⌜ shownPlace r (now (this .entry)) (now (earlier .entry)) ≡ rowAnswer (now (this .entry)) (now (earlier .entry)) row ⌝ }
+    ensures { λ r. ⌜ Inside r (now (this .entry)) (now (earlier .entry)) ⌝ }
+{
+    let in_this = stretch_in(this, row);
+    let in_earlier = stretch_in(earlier, row);
+    if in_this.new {
+        return Place::This {
+            start: in_this.start,
+            end: in_this.end,
+        };
+    }
+    if in_earlier.new {
+        return Place::Earlier {
+            start: in_earlier.start,
+            end: in_earlier.end,
+        };
+    }
+    Place::Refused(23)
+}
+
+// The segment of a number, once this record, the earlier one and the number are judged, in that order.
+fn find_place(this: &[u8], earlier: &[u8], number: u64) -> Place
+    ensures { λ r. ⌜ shownPlace r (now (this .entry)) (now (earlier .entry)) ≡ segmentAnswer (now (this .entry)) (now (earlier .entry)) number ⌝ }
+    ensures { λ r. ⌜ Inside r (now (this .entry)) (now (earlier .entry)) ⌝ }
+{
+    let refusal = record::accept(this);
+    if refusal != 0 {
+        return Place::Refused(refusal);
+    }
+    let earlier_refusal = record::accept(earlier);
+    if earlier_refusal != 0 {
+        return Place::Refused(earlier_refusal);
+    }
+    let row = row_of(number);
+    if row == SEGMENT_COUNT {
+        return Place::Refused(20);
+    }
+    choose_record(this, earlier, row)
+}
+
+// The bytes of a segment; none beside a refusal, whose number `segment_refusal` gives.
+pub fn segment<'a>(this: &'a [u8], earlier: &'a [u8], number: u64) -> &'a [u8]
+    ensures { λ r. ⌜ now r ≡ segmentAnswer (now (this .entry)) (now (earlier .entry)) number .value ⌝ }
+{
+    match find_place(this, earlier, number) {
+        Place::This { start, end } => &this[start..end],
+        Place::Earlier { start, end } => &earlier[start..end],
+        Place::Refused(_) => &this[0..0],
+    }
+}
+
+// The refusal of the same question: 1 to 11, 20 or 23, or 0 where `segment` gives the bytes.
+pub fn segment_refusal(this: &[u8], earlier: &[u8], number: u64) -> u8
+    ensures { λ r. ⌜ r ≡ segmentAnswer (now (this .entry)) (now (earlier .entry)) number .number ⌝ }
+{
+    match find_place(this, earlier, number) {
+        Place::This { start: _, end: _ } => 0,
+        Place::Earlier { start: _, end: _ } => 0,
+        Place::Refused(n) => n,
+    }
+}
