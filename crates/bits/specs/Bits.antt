@@ -31,3 +31,7 @@ getBits s w b = num (bitAt b) s w
 -- the bytes b with that field set to v
 unfoldable pub setBits : ℕ → ℕ → ℕ → List ℕ → List ℕ
 setBits s w v b = bytesOf (put s w v (bitAt b)) 0 (length b)
+
+-- the most bits of a field that the code takes: eight bytes hold it wherever it starts
+abbrev pub widest : ℕ
+widest = 56

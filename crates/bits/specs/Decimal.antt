@@ -17,3 +17,7 @@ digits (suc n) c = digits n (c / 16) && leb (c % 16) 9
 unfoldable pub coded : ℕ → ℕ → ℕ
 coded zero x = 0
 coded (suc n) x = coded n (x / 10) * 16 + x % 10
+
+-- the most digits that the code takes: those of 56 bits
+abbrev pub mostDigits : ℕ
+mostDigits = 14

@@ -1,11 +1,17 @@
 // Bit fields of a run of bytes, read and written, and binary coded decimal. 01: "The record", words and bits.
 // Bits past the last byte read as 0 and are not written, so no caller has to know the length first.
 ghost use mathlib.Core.Path.{_≡_};
-ghost use Prim.Native.Nat.{_+_, _-_, _*_, _/_, _%_, _^_, _≤_, _<_};
+ghost use Prim.Native.Nat.{_+_, _-_, _*_, _/_, _%_, _^_, _≤_, _<_, min};
+ghost use lib.Dec.{ltb};
 ghost use lib.ListN.{getD, set};
-ghost use Rattle.bits.specs.Bits.{getBits, setBits};
-ghost use Rattle.bits.specs.Decimal.{decimal, digits, coded};
+ghost use Rattle.bits.specs.Bits.{getBits, setBits, widest};
+ghost use Rattle.bits.specs.Decimal.{decimal, digits, coded, mostDigits};
 ghost use Rattle.bits.specs.Steps.{mix, Stored};
+
+// The most bits of a field, and the most decimal digits.
+const WIDEST: usize = 56;
+
+const MOST_DIGITS: usize = 14;
 
 fn wide(byte: u8) -> u64
     ensures { λ r. ⌜ (r ≡ byte) × (r < 256) ⌝ }
@@ -20,7 +26,7 @@ fn narrow(x: u64) -> u8
 }
 
 // 2 to the power k.
-pub fn two_to(k: usize) -> u64
+fn two_to(k: usize) -> u64
     requires { ⌜ k < 64 ⌝ }
     ensures { λ r. ⌜ (r ≡ 2 ^ k) × (0 < r) ⌝ }
 {
@@ -39,7 +45,7 @@ fn byte_at(bytes: &[u8], i: usize) -> u64
 
 // The number that `count` bytes from `from` on make, high byte first.
 fn window(bytes: &[u8], from: usize, count: usize) -> u64
-    requires { ⌜ (from < 65536) × (count ≤ 8) ⌝ }
+    requires { ⌜ (from < 2 ^ 61) × (count ≤ 8) ⌝ }
     ensures { λ r. ⌜ r ≡ getBits (8 * from) (8 * count) (now (bytes .entry)) ⌝ }
 {
     let mut x: u64 = 0;
@@ -51,9 +57,9 @@ fn window(bytes: &[u8], from: usize, count: usize) -> u64
     x
 }
 
-// The field of `width` bits from bit `start` on.
-pub fn read_bits(bytes: &[u8], start: usize, width: usize) -> u64
-    requires { ⌜ (start < 65536) × (width ≤ 56) ⌝ }
+// The field of `width` bits from bit `start` on: at most 56, so that eight bytes hold it wherever it starts.
+fn cut_field(bytes: &[u8], start: usize, width: usize) -> u64
+    requires { ⌜ width ≤ 56 ⌝ }
     ensures { λ r. ⌜ (r ≡ getBits start width (now (bytes .entry))) × (r < 2 ^ width) ⌝ }
 {
     let from = start / 8;
@@ -61,6 +67,13 @@ pub fn read_bits(bytes: &[u8], start: usize, width: usize) -> u64
     let count = (skip + width + 7) / 8;
     let after = count * 8 - (skip + width);
     window(bytes, from, count) / two_to(after) % two_to(width)
+}
+
+// The field of `width` bits from bit `start` on; of a wider one than 56 bits, its first 56.
+pub fn read_bits(bytes: &[u8], start: usize, width: usize) -> u64
+    ensures { λ r. ⌜ (r ≡ getBits start (min width widest) (now (bytes .entry))) × (r < 2 ^ min width widest) ⌝ }
+{
+    cut_field(bytes, start, lists::smaller(width, WIDEST))
 }
 
 // Byte k of the n that make up x, high byte first.
@@ -82,7 +95,7 @@ fn set_byte(bytes: &mut [u8], i: usize, byte: u8)
 
 // The n bytes from `from` on become those that make up x; what lies past the end is dropped.
 fn store(bytes: &mut [u8], from: usize, n: usize, x: u64)
-    requires { ⌜ (from < 65536) × (n ≤ 8) ⌝ }
+    requires { ⌜ (from < 2 ^ 61) × (n ≤ 8) ⌝ }
     ensures { λ _. ⌜ Stored from n x n (now (bytes .entry)) (now (bytes .exit)) ⌝ }
 {
     let mut k: usize = 0;
@@ -103,9 +116,9 @@ fn mixed(old: u64, after: usize, width: usize, value: u64) -> u64
     (high * p + value % p) * t + old % t
 }
 
-// The field of `width` bits from bit `start` on becomes the lowest bits of `value`; every other bit stays.
-pub fn write_bits(bytes: &mut [u8], start: usize, width: usize, value: u64)
-    requires { ⌜ (start < 65536) × (width ≤ 56) ⌝ }
+// The field of `width` bits, at most 56, from bit `start` on becomes the lowest bits of `value`; every other bit stays.
+fn put_field(bytes: &mut [u8], start: usize, width: usize, value: u64)
+    requires { ⌜ width ≤ 56 ⌝ }
     ensures { λ _. ⌜ now (bytes .exit) ≡ setBits start width value (now (bytes .entry)) ⌝ }
 {
     let from = start / 8;
@@ -117,8 +130,25 @@ pub fn write_bits(bytes: &mut [u8], start: usize, width: usize, value: u64)
     store(bytes, from, count, new);
 }
 
+// The field of `width` bits from bit `start` on, or of a wider one its first 56, becomes the lowest bits of `value`.
+pub fn write_bits(bytes: &mut [u8], start: usize, width: usize, value: u64)
+    ensures { λ _. ⌜ now (bytes .exit) ≡ setBits start (min width widest) value (now (bytes .entry)) ⌝ }
+{
+    put_field(bytes, start, lists::smaller(width, WIDEST), value);
+}
+
+// Whether `value` has at most `width` bits.
+pub fn fits_bits(value: u64, width: usize) -> bool
+    ensures { λ r. ⌜ r ≡ ltb value (2 ^ width) ⌝ }
+{
+    if width < 64 {
+        return value < two_to(width);
+    }
+    true
+}
+
 // The number that the last `count` digits of `code` say.
-pub fn decimal_value(count: usize, code: u64) -> u64
+fn digits_value(count: usize, code: u64) -> u64
     requires { ⌜ count ≤ 14 ⌝ }
     ensures { λ r. ⌜ r ≡ decimal count code ⌝ }
 {
@@ -132,7 +162,7 @@ pub fn decimal_value(count: usize, code: u64) -> u64
 }
 
 // Whether each of the last `count` digits of `code` is at most 9.
-pub fn decimal_digits(count: usize, code: u64) -> bool
+fn digits_good(count: usize, code: u64) -> bool
     requires { ⌜ count ≤ 14 ⌝ }
     ensures { λ r. ⌜ r ≡ digits count code ⌝ }
 {
@@ -147,12 +177,33 @@ pub fn decimal_digits(count: usize, code: u64) -> bool
 }
 
 // The code of the last `count` decimal digits of `value`.
-pub fn decimal_code(count: u64, value: u64) -> u64
+fn digits_code(count: u64, value: u64) -> u64
     requires { ⌜ count ≤ 14 ⌝ }
     ensures { λ r. ⌜ r ≡ coded count value ⌝ }
 {
     if count == 0 {
         return 0;
     }
-    decimal_code(count - 1, value / 10) * 16 + value % 10
+    digits_code(count - 1, value / 10) * 16 + value % 10
+}
+
+// The number that the last `count` digits of `code` say; of more than 14 digits, the last 14.
+pub fn decimal_value(count: usize, code: u64) -> u64
+    ensures { λ r. ⌜ r ≡ decimal (min count mostDigits) code ⌝ }
+{
+    digits_value(lists::smaller(count, MOST_DIGITS), code)
+}
+
+// Whether each of the last `count` digits of `code`, or of more than 14 the last 14, is at most 9.
+pub fn decimal_digits(count: usize, code: u64) -> bool
+    ensures { λ r. ⌜ r ≡ digits (min count mostDigits) code ⌝ }
+{
+    digits_good(lists::smaller(count, MOST_DIGITS), code)
+}
+
+// The code of the last `count` decimal digits of `value`; of more than 14, the last 14.
+pub fn decimal_code(count: usize, value: u64) -> u64
+    ensures { λ r. ⌜ r ≡ coded (min count mostDigits) value ⌝ }
+{
+    digits_code(lists::smaller(count, MOST_DIGITS) as u64, value)
 }

@@ -3,3 +3,4 @@ mod Interleave
 pub mod Sign
 pub mod OutThenIn
 pub mod InThenOut
+mod Room

@@ -1,9 +1,9 @@
 -- Samples: two's complement bytes, the four channels in turn (01: "Sample k (from 0) of channel c (1 to 4) is byte
 -- 80 + 4k + (c - 1), a two's complement number"). A stretch is the bytes from byte 80.
-use Prim.Native.Nat.{ℕ, _+_, _-_, _*_, _/_, _%_}
-use mathlib.Core.Bool.{cond}
-use mathlib.Core.List.{List, []}
-use lib.ListN.{getD}
+use Prim.Native.Nat.{ℕ, _+_, _-_, _*_, _/_, _%_, min}
+use mathlib.Core.Bool.{cond, _||_}
+use mathlib.Core.List.{List, [], _++_}
+use lib.ListN.{length, drop, getD}
 use lib.IntN.{ℤ, pos, negsuc}
 use lib.Dec.{eqb, ltb}
 use Rattle.lists.specs.Fill.{tab}
@@ -25,6 +25,10 @@ sampleOf stretch channel k = signedOf (getD stretch (4 * k + (channel - 1)) 0)
 abbrev pub samplesOf : List ℕ → ℕ → ℕ → List ℤ
 samplesOf stretch channel n = tab (sampleOf stretch channel) 0 n
 
+-- the samples of a channel that a stretch of so many bytes has and a buffer of so many places holds; none but of 1 to 4
+abbrev pub channelRoom : ℕ → ℕ → ℕ → ℕ
+channelRoom channel bytes places = cond (ltb channel 1 || ltb 4 channel) 0 (min (bytes / 4) places)
+
 -- channel c (1 to 4) of the four
 unfoldable pub channelOf : List ℤ → List ℤ → List ℤ → List ℤ → ℕ → List ℤ
 channelOf one two three four c = cond (eqb c 1) one (cond (eqb c 2) two (cond (eqb c 3) three (cond (eqb c 4) four [])))
@@ -36,3 +40,12 @@ interleavedByte one two three four i = byteOf (getD (channelOf one two three fou
 -- the 4n bytes of the first n samples of four channels
 unfoldable pub interleaved : ℕ → List ℤ → List ℤ → List ℤ → List ℤ → List ℕ
 interleaved n one two three four = tab (interleavedByte one two three four) 0 (4 * n)
+
+-- the samples that a stretch has room for and every channel holds
+abbrev pub setRoom : List ℕ → List ℤ → List ℤ → List ℤ → List ℤ → ℕ
+setRoom stretch one two three four = min (length stretch / 4) (min (min (length one) (length two)) (min (length three) (length four)))
+
+-- the stretch with those samples in it; bytes past them keep their contents
+abbrev pub multiplexed : List ℕ → List ℤ → List ℤ → List ℤ → List ℤ → List ℕ
+multiplexed stretch one two three four =
+    interleaved (setRoom stretch one two three four) one two three four ++ drop (4 * setRoom stretch one two three four) stretch

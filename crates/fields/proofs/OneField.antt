@@ -2,7 +2,7 @@
 -- Assumes nothing.
 use Prim.Native.Nat.{ℕ, zero, suc, _+_, _*_, _/_, _%_, _^_, _≤_, _<_}
 use mathlib.Core.Path.{_≡_, refl, ap, sym, _∙_, subst}
-use mathlib.Core.Bool.{Bool, true, false, cond, not, _||_}
+use mathlib.Core.Bool.{Bool, true, false, cond, not, _&&_, _||_}
 use mathlib.Core.List.{List}
 use mathlib.Core.Logic.{_⊎_}
 use native.Mathlib.Omega.{arith}
@@ -10,28 +10,31 @@ use native.Mathlib.Nat.{pow-suc}
 use lib.Pow.{pow-add}
 use lib.Dec.{T, leb, ltb, eqb, leb→le, ltb→lt, lt→ltb, eqb→eq}
 use lib.ListN.{length, getD}
-use Rattle.lists.proofs.Truth.{each}
+use Rattle.lists.proofs.Truth.{left, right}
 use Rattle.bits.specs.Bits.{bitAt, getBits, setBits}
 use Rattle.bits.specs.Decimal.{decimal, digits, coded}
 use Rattle.bits.proofs.Bits.{getBits-lt, get-set, get-other, set-get, length-setBits, bit-kept}
 use Rattle.bits.proofs.Decimal.{coded-lt, coded-digits, decimal-coded, coded-decimal, decimal-lt}
 use Rattle.fields.specs.declared.Field.{Field}
-use Rattle.fields.specs.Field.{start, width, digitCount, encoded, decoded, valueOf, withValue, digitsGood, decimalFits, binaryFits, Readable, fieldTests, readable}
+use Rattle.fields.specs.Field.{start, width, digitCount, encoded, decoded, valueOf, withValue, digitsGood, decimalFits, binaryFits, Readable, readable}
 
 -- the test gives the facts
 module _ (f : Field) (t : T (readable f)) where
+  rest : T ((leb 1 (f .1) && leb (f .1) 16) && (leb (width f) 56 && (not (f .3) || eqb (width f % 4) 0)))
+  rest = right (leb 1 (f .0) && leb (f .0) 4000) _ t
+
   pub is-readable : Readable f
   is-readable =
       record {
-        first = leb→le 1 (f .0) (each (fieldTests f) 0 t);
-        last = leb→le (f .0) 4000 (each (fieldTests f) 1 t);
-        high = leb→le 1 (f .1) (each (fieldTests f) 2 t);
-        low = leb→le (f .1) 16 (each (fieldTests f) 3 t);
-        narrow = leb→le (width f) 56 (each (fieldTests f) 4 t);
+        first = leb→le 1 (f .0) (left (leb 1 (f .0)) _ (left (leb 1 (f .0) && leb (f .0) 4000) _ t));
+        last = leb→le (f .0) 4000 (right (leb 1 (f .0)) _ (left (leb 1 (f .0) && leb (f .0) 4000) _ t));
+        high = leb→le 1 (f .1) (left (leb 1 (f .1)) _ (left (leb 1 (f .1) && leb (f .1) 16) _ rest));
+        low = leb→le (f .1) 16 (right (leb 1 (f .1)) _ (left (leb 1 (f .1) && leb (f .1) 16) _ rest));
+        narrow = leb→le (width f) 56 (left (leb (width f) 56) _ (right (leb 1 (f .1) && leb (f .1) 16) _ rest));
       }
 
   whole-digits : T (not (f .3) || eqb (width f % 4) 0)
-  whole-digits = each (fieldTests f) 5 t
+  whole-digits = right (leb (width f) 56) _ (right (leb 1 (f .1) && leb (f .1) 16) _ rest)
 
 -- ## codes, over the kind and the width of a field
 

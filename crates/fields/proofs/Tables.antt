@@ -2,7 +2,7 @@
 -- changes nothing, and bits that no field names are kept. Assumes nothing.
 use Prim.Native.Nat.{ℕ, zero, suc, _+_, _*_, _≤_, _<_}
 use mathlib.Core.Path.{_≡_, refl, ap, sym, _∙_, subst}
-use mathlib.Core.Bool.{Bool, _&&_}
+use mathlib.Core.Bool.{Bool, true, _&&_}
 use mathlib.Core.List.{List, [], _∷_}
 use mathlib.Core.Logic.{_⊎_, inl, inr, ⊎-elim}
 use native.Mathlib.Omega.{arith}
@@ -11,7 +11,7 @@ use lib.Dec.{T, leb, leb→le, le→leb}
 use lib.ListN.{length, getD, drop, List·getD-eq-default, drop-of-length-le}
 use lib.Seq.{drop-cons}
 use native.Mathlib.Numerals.{add-one}
-use Rattle.lists.proofs.Truth.{left, right, both, either, and-true, and-assoc}
+use Rattle.lists.proofs.Truth.{left, right, both, either, holds, and-true, and-assoc}
 use Rattle.bits.specs.Bits.{bitAt}
 use Rattle.fields.specs.declared.Field.{Field}
 use Rattle.fields.specs.Field.{none, start, width, valueOf, withValue, digitsGood, decimalFits, binaryFits, Readable, readable}
@@ -42,10 +42,10 @@ apart-cases f g t =
     (either (leb (start f + width f) (start g)) (leb (start g + width g) (start f)) t)
 
 -- each row of a sound table is readable
-pub readable-at : (n : ℕ) (fs : List Field) (d : Field) (k : ℕ) → T (sound n fs) → k < length fs → Readable (getD fs k d)
-readable-at n [] d k t h = absurd (not-suc-le-zero h)
-readable-at n (f ∷ fs) d zero t h = is-readable f (sound-readable n f fs t)
-readable-at n (f ∷ fs) d (suc k) t h = readable-at n fs d k (sound-rest n f fs t) (le-of-suc-le-suc h)
+pub test-at : (n : ℕ) (fs : List Field) (d : Field) (k : ℕ) → T (sound n fs) → k < length fs → readable (getD fs k d) ≡ true
+test-at n [] d k t h = absurd (not-suc-le-zero h)
+test-at n (f ∷ fs) d zero t h = holds (readable f) (sound-readable n f fs t)
+test-at n (f ∷ fs) d (suc k) t h = test-at n fs d k (sound-rest n f fs t) (le-of-suc-le-suc h)
 
 -- a longer run of bytes holds the table too
 pub sound-more : (m n : ℕ) (fs : List Field) → m ≤ n → T (sound m fs) → T (sound n fs)

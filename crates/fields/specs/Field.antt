@@ -2,9 +2,8 @@
 -- 01: the table of words under "The record".
 use Prim.Native.Nat.{ℕ, _+_, _-_, _*_, _/_, _%_, _^_, _≤_, _<_}
 use mathlib.Core.Bool.{Bool, true, false, cond, _&&_, _||_, not}
-use mathlib.Core.List.{List, [], _∷_}
+use mathlib.Core.List.{List}
 use lib.Dec.{leb, ltb, eqb}
-use Rattle.lists.specs.Tests.{all}
 use Rattle.bits.specs.Bits.{getBits, setBits}
 use Rattle.bits.specs.Decimal.{decimal, digits, coded}
 use Rattle.fields.specs.declared.Field.{Field}
@@ -81,15 +80,18 @@ pub record Readable (f : Field) : Type 0 where
   pub narrow : width f ≤ 56
 
 -- the same as a test, and that a decimal field has whole digits
-abbrev pub fieldTests : Field → List Bool
-fieldTests f =
-    leb 1 (f .0) ∷
-    leb (f .0) 4000 ∷
-    leb 1 (f .1) ∷
-    leb (f .1) 16 ∷
-    leb (width f) 56 ∷
-    (not (isDecimal f) || eqb (width f % 4) 0) ∷
-    []
-
 abbrev pub readable : Field → Bool
-readable f = all (fieldTests f)
+readable f =
+    (leb 1 (f .0) && leb (f .0) 4000)
+    && ((leb 1 (f .1) && leb (f .1) 16)
+    && (leb (width f) 56 && (not (isDecimal f) || eqb (width f % 4) 0)))
+
+-- what the code reads, writes and judges: of a field that is not readable 0, nothing, and no digit
+abbrev pub readValue : Field → List ℕ → ℕ
+readValue f b = cond (readable f) (valueOf f b) 0
+
+abbrev pub writeValue : Field → ℕ → List ℕ → List ℕ
+writeValue f v b = cond (readable f) (withValue f v b) b
+
+abbrev pub goodDigits : Field → List ℕ → Bool
+goodDigits f b = not (readable f) || digitsGood f b

@@ -1,12 +1,13 @@
 -- The one test of the header's table, and what it gives for each row. Assumes nothing.
 use Prim.Native.Nat.{ℕ, _<_}
 use mathlib.Core.Path.{_≡_, refl, ap}
+use mathlib.Core.Bool.{Bool, cond}
 use mathlib.Core.List.{List}
 use lib.Dec.{T}
 use lib.ListN.{getD}
-use Rattle.fields.specs.Field.{none, Readable}
+use Rattle.fields.specs.Field.{none, withValue, writeValue}
 use Rattle.fields.specs.Table.{sound, readAll}
-use Rattle.fields.proofs.Tables.{readable-at}
+use Rattle.fields.proofs.Tables.{test-at}
 use Rattle.header.specs.Format.{fields}
 use Rattle.header.specs.declared.Header.{Header}
 use Rattle.header.specs.Header.{values, named, headerOf}
@@ -15,8 +16,10 @@ use Rattle.header.specs.Header.{values, named, headerOf}
 pub fields-sound : T (sound 640 fields)
 fields-sound = tt
 
-pub row-readable : (k : ℕ) → k < 46 → Readable (getD fields k none)
-row-readable k h = readable-at 640 fields none k fields-sound h
+-- so a row is written as its field says
+pub row-written : (k v : ℕ) (b : List ℕ) → k < 46 → writeValue (getD fields k none) v b ≡ withValue (getD fields k none) v b
+row-written k v b h =
+    ap (λ (t : Bool). cond t (withValue (getD fields k none) v b) b) (test-at 640 fields none k fields-sound h)
 
 -- a header is its values, and 46 values are those of a header
 pub named-values : (h : Header) → named (values h) ≡ h

@@ -67,6 +67,10 @@ module _ {A : Type 0} where
       let e' : n + m ≡ k = omega arith in
       ap (λ (j : ℕ). getD (tab f 0 n ++ drop n b) j d) (sym e) ∙ getD-append-add (tab f 0 n) (drop n b) m d ∙ getD-drop n b m d ∙ ap (λ (j : ℕ). getD b j d) e'
 
+  pub over-none : (b : List A) (f : ℕ → A) → over b f 0 ≡ b
+  unfolding over
+  over-none b f = refl
+
   pub length-over : (b : List A) (f : ℕ → A) (n : ℕ) → n ≤ length b → length (over b f n) ≡ length b
   unfolding over
   length-over b f n h = omega (arith, length-append (tab f 0 n) (drop n b), length-tab f 0 n, length-drop n b)

@@ -6,7 +6,7 @@ ghost use mathlib.Core.List.{[], _∷_};
 ghost use Prim.Native.Nat.{_+_, _*_, _^_, _≤_, _<_};
 ghost use lib.Dec.{eqb};
 ghost use lib.ListN.{length};
-ghost use Rattle.record.specs.Refusal.{_when_, first};
+ghost use Rattle.record.specs.Refusal.{_when_, first, _then_};
 ghost use Rattle.record.specs.Record.{checks, recordRefusal, headerAnswer, writeRefusal, afterWriting};
 ghost use Rattle.record.specs.FrequencyRate.{rateUnits, rateAnswer};
 ghost use Rattle.record.specs.Shown.{shownHeader, shownRate};
@@ -31,6 +31,16 @@ pub enum HeaderAnswer {
 pub enum RateAnswer {
     Units(i64),
     Refused(u8),
+}
+
+// The refusal n, or where that is 0 the refusal m.
+pub fn first_refusal(n: u8, m: u8) -> u8
+    ensures { λ r. ⌜ r ≡ n then m ⌝ }
+{
+    if n != 0 {
+        return n;
+    }
+    m
 }
 
 // Whether a length in bytes is not twice a length in words; no product, so that no number of words can wrap.

@@ -12,8 +12,8 @@ use mir.Val.{SFits}
 use Rattle.lists.proofs.Fill.{length-tab}
 use Rattle.totals.specs.declared.Total.{Total}
 use Rattle.channels.specs.Sample.{sampleOf, samplesOf}
-use Rattle.totals.specs.Total.{sumOf, squaresOf, lesser, greater, keptOf, totalOf, totalsOf}
-use Rattle.totals.specs.Running.{nextOf, countLimit, Room, runningOf, runningsOf, totalAt, channelNext}
+use Rattle.totals.specs.Total.{sumOf, squaresOf, lesser, greater, keptOf, totalOf, totalsOf, countLimit}
+use Rattle.totals.specs.Running.{nextOf, Room, runningOf, runningsOf, totalAt, channelNext}
 use Rattle.totals.proofs.Bits.{mag≤abs, abs-sum, byte-abs}
 use Rattle.totals.proofs.Samples.{Bytes, bytes-append, samples-bytes, samples-more}
 use Rattle.totals.proofs.Sums.{sum-append, squares-append, sum-bound, squares-bound}

@@ -19,10 +19,6 @@ nextOf total sample =
       greatest = greater (total .greatest) sample;
     }
 
--- the most samples a channel that one call takes: more than any record has
-abbrev pub countLimit : ℕ
-countLimit = 65536
-
 -- a total whose sums are far from the ends of their widths, so that one sample more fits
 abbrev pub roomLimit : ℕ
 roomLimit = 2 ^ 62

@@ -1,9 +1,10 @@
 -- A channel's total over its samples, and the four channels' totals (01, "The book": "for each channel sum, sum of squares,
 -- least and greatest over all samples"; no samples: 0 throughout).
-use Prim.Native.Nat.{ℕ, _+_, _*_}
+use Prim.Native.Nat.{ℕ, _+_, _*_, _/_, min}
 use mathlib.Core.Bool.{cond}
 use mathlib.Core.List.{List, [], _∷_, foldl}
 use lib.IntN.{ℤ, pos, natAbs, _+ℤ_}
+use lib.ListN.{length}
 use lib.Signed.{ltZ}
 use Rattle.lists.specs.Fill.{tab}
 use Rattle.totals.specs.declared.Total.{Total}
@@ -46,3 +47,11 @@ noTotal = record { sum = pos 0; squares = 0; least = pos 0; greatest = pos 0 }
 -- the totals of channels 1 to 4 over the first n samples of each
 unfoldable pub totalsOf : List ℕ → ℕ → List Total
 totalsOf stretch n = tab (λ (channel : ℕ). totalOf (samplesOf stretch channel n)) 1 4
+
+-- the most samples a channel that one call takes: more than any record has
+abbrev pub countLimit : ℕ
+countLimit = 65536
+
+-- the samples of each channel in a stretch, four bytes a set
+abbrev pub countOf : List ℕ → ℕ
+countOf stretch = min (length stretch / 4) countLimit

@@ -5,8 +5,11 @@ ghost use Prim.Native.Nat.{_+_, _*_, _≤_, _<_};
 ghost use lib.IntN.{natAbs};
 ghost use lib.ListN.{length};
 ghost use Rattle.channels.specs.Sample.{sampleOf};
-ghost use Rattle.totals.specs.Total.{lesser, greater, totalsOf};
-ghost use Rattle.totals.specs.Running.{nextOf, Room, countLimit, runningsOf, totalAt, channelNext};
+ghost use Rattle.totals.specs.Total.{lesser, greater, totalsOf, countLimit, countOf};
+ghost use Rattle.totals.specs.Running.{nextOf, Room, runningsOf, totalAt, channelNext};
+
+// The most samples a channel that one call takes: more than any record has.
+const COUNT_LIMIT: usize = 65_536;
 
 // A channel's total.
 pub struct Total {
@@ -90,7 +93,7 @@ fn with_samples(totals: [Total; 4], stretch: &[u8], k: usize) -> [Total; 4]
 
 // The totals of channels 1 to 4 over the first `count` samples of each. The running totals start from a least and a greatest
 // that any sample replaces, so the loop has no test for the first sample; no samples at all are apart.
-pub fn stretch_totals(stretch: &[u8], count: usize) -> [Total; 4]
+fn sum_sets(stretch: &[u8], count: usize) -> [Total; 4]
     requires { ⌜ (4 * count ≤ length (now stretch)) × (count ≤ countLimit) ⌝ }
     ensures { λ r. ⌜ r ≡ totalsOf (now (stretch .entry)) count ⌝ }
 {
@@ -117,4 +120,11 @@ pub fn stretch_totals(stretch: &[u8], count: usize) -> [Total; 4]
         k += 1;
     }
     totals
+}
+
+// The totals of channels 1 to 4 over a stretch of samples; of more than 65,536 samples a channel, the first ones.
+pub fn stretch_totals(stretch: &[u8]) -> [Total; 4]
+    ensures { λ r. ⌜ r ≡ totalsOf (now (stretch .entry)) (countOf (now (stretch .entry))) ⌝ }
+{
+    sum_sets(stretch, lists::smaller(stretch.len() / 4, COUNT_LIMIT))
 }

@@ -10,8 +10,10 @@ use Rattle.record.specs.Record.{recordRefusal, headerAnswer}
 use Rattle.record.specs.FrequencyRate.{rateUnits, rateAnswer}
 use Rattle.channels.specs.Sample.{signedOf}
 use Rattle.totals.specs.Total.{sumOf, squaresOf, lesser, greater, keptOf, totalOf}
+use Rattle.samples.specs.Stretch.{lineOf}
+use Rattle.times.specs.SampleTime.{timeRefusal, timeAnswer}
 use Rattle.worked.specs.Cases.{cases, given, said}
 
 pub worked : map given cases ≡ map said cases
-unfolding getBits num bitAt decimal digits valueOf digitsGood headerOf rateOf lineIn recordRefusal headerAnswer rateUnits rateAnswer signedOf sumOf squaresOf lesser greater keptOf totalOf
+unfolding getBits num bitAt decimal digits valueOf digitsGood headerOf rateOf lineIn recordRefusal headerAnswer rateUnits rateAnswer timeRefusal timeAnswer lineOf signedOf sumOf squaresOf lesser greater keptOf totalOf
 worked = refl

@@ -9,6 +9,7 @@ use Rattle.record.specs.FrequencyRate.{rateAnswer}
 use Rattle.channels.specs.Sample.{signedOf}
 use Rattle.totals.specs.declared.Total.{Total}
 use Rattle.totals.specs.Total.{totalOf}
+use Rattle.times.specs.SampleTime.{timeAnswer}
 use Rattle.worked.specs.Bytes.{Word, _is_, bytesFrom}
 
 -- the record of 01's lister case: 390 words, zero but for these (hex 8101, 0001, 0186, AC18, 0293, 2E00, 4200, 0012, 3452,
@@ -31,6 +32,10 @@ caseWords =
 abbrev pub caseWith : List Word → List ℕ
 caseWith ws = bytesFrom (ws ++ caseWords) 1 390
 
+-- a record of 2190 words at 50,000 samples a second, with time tag 1
+abbrev pub fastRecord : List ℕ
+fastRecord = bytesFrom (3 is 2190 ∷ 7 is 0 ∷ 8 is 1 ∷ 37 is 50000 ∷ caseWords) 1 2190
+
 -- what a definition gives, and what 01 says: a refusal number first, then the value
 pub record Case : Type 0 where
   pub gives : List ℤ
@@ -43,6 +48,9 @@ g against s = record { gives = g; says = s }
 -- the refusal number and the value of an answer
 abbrev pub shownℤ : Answer ℤ → List ℤ
 shownℤ a = pos (a .number) ∷ a .value ∷ []
+
+abbrev pub shownℕ : Answer ℕ → List ℤ
+shownℕ a = pos (a .number) ∷ pos (a .value) ∷ []
 
 -- the refusal number and field k of the header
 abbrev pub shownField : ℕ → List ℕ → List ℤ
@@ -76,6 +84,9 @@ cases =
     -- time tags 86,399,999 and 86,400,000 (hex 0526 5BFF and 0526 5C00)
     ∷ ((pos (recordRefusal (caseWith (7 is 1318 ∷ 8 is 23551 ∷ []))) ∷ []) against (pos 0 ∷ []))
     ∷ ((pos (recordRefusal (caseWith (7 is 1318 ∷ 8 is 23552 ∷ []))) ∷ []) against (pos 9 ∷ []))
+    -- sample times at 50,000 samples a second with time tag 1: the first and the last sample
+    ∷ (shownℕ (timeAnswer fastRecord 0) against (pos 0 ∷ pos 1000 ∷ []))
+    ∷ (shownℕ (timeAnswer fastRecord 999) against (pos 0 ∷ pos 20980 ∷ []))
     -- bytes 80, 7F and FF hex
     ∷ ((signedOf 128 ∷ signedOf 127 ∷ signedOf 255 ∷ []) against (negℤ (pos 128) ∷ pos 127 ∷ negℤ (pos 1) ∷ []))
     -- the total of samples 3 and -4

@@ -1,76 +1,52 @@
--- `channels::demultiplex` meets its contract: the buffer's first k places are the channel's samples. Assumes nothing.
-use Prim.Native.Nat.{_≤_, _-_}
-use mathlib.Core.Path.{_∙_}
-use native.Mathlib.Omega.{arith}
-use borrow.Author.Needs.{needs}
-use lib.IntN.{pos}
-use mir.Syntax.{w8}
-use mir.ValLaws.{toZ-ofZ}
-use Rattle.lists.proofs.Fill.{Filled, filled-none, filled-more, filled-at}
+-- One of the four channels, or nothing. Assumes nothing.
+use Prim.Native.Nat.{_/_, min}
+use mathlib.Core.Path.{ap, sym, _∙_}
+use mathlib.Core.Bool.{Bool, cond}
+use denote.Ref.{now}
+use lib.ListN.{length}
+use borrow.Author.Tests.{ltb-false}
+use Rattle.lists.specs.Fill.{over}
+use Rattle.lists.proofs.Fill.{over-none}
+use Rattle.lists.proofs.Truth.{or-false}
 use Rattle.channels.specs.Sample.{sampleOf}
+use Rattle.channels.proofs.Room.{stretch-has, buffer-holds}
+use borrow.Author.Needs.{needs}
 use Rattle.channels.proofs.demultiplex.Statement.{statement}
 use Rattle.channels.proofs.demultiplex.Tie as tie
 
-abbrev Inv-loop : tie.InvT-loop
-Inv-loop stretch channel count out₀ place k₀ out k = (k ≤ count) × Filled out₀ (sampleOf stretch channel) (pos 0) k out
+returns : tie.Need-returns
+returns c =
+    let a = c .before .before .args in
+    let rule = sampleOf (now (a .stretch)) (a .channel) in
+    sym (ap (λ (t : Bool). over (now (a .out)) rule (cond t 0 (min (length (now (a .stretch)) / 4) (length (now (a .out)))))) (c .if1 .taken) ∙ over-none (now (a .out)) rule)
 
-abbrev μ-loop : tie.MeasureT-loop
-μ-loop stretch channel count out₀ place k₀ out k = count - k
+smaller-requires : tie.Need-smaller-requires
+smaller-requires c κs = search needs
 
-sub-place : tie.Need-sub-place Inv-loop μ-loop
-sub-place c = search needs
+copy-channel-requires : tie.Need-copy-channel-requires
+copy-channel-requires c κs =
+    let s = c .before in
+    let a = s .before .before .before .args in
+    let n = or-false _ _ (s .before .if1 .left) in
+    let bytes = length (now (a .stretch)) in
+    let places = length (now (a .out)) in (
+      (ltb-false (a .channel) 1 (n .0), ltb-false 4 (a .channel) (n .1)),
+      (stretch-has bytes places (s .smaller .result) (s .smaller .ensures), buffer-holds bytes places (s .smaller .result) (s .smaller .ensures)),
+    )
 
-loop-holds : tie.Need-loop-holds Inv-loop μ-loop
-loop-holds c = (search needs, filled-none _ _ _)
-
-mul-signed : tie.Need-mul-signed Inv-loop μ-loop
-mul-signed c = search needs
-
-add-signed : tie.Need-add-signed Inv-loop μ-loop
-add-signed c = search needs
-
-shared-slice-read-signed : tie.Need-shared-slice-read-signed Inv-loop μ-loop
-shared-slice-read-signed c = search needs
-
-signed-requires : tie.Need-signed-requires Inv-loop μ-loop
-signed-requires c κs = search needs
-
-slice-set-from-sample : tie.Need-slice-set-from-sample Inv-loop μ-loop
-slice-set-from-sample c = search needs
-
-add-k : tie.Need-add-k Inv-loop μ-loop
-add-k c = search needs
-
-loop-less : tie.Need-loop-less Inv-loop μ-loop
-loop-less c = search needs
-
-loop-again : tie.Need-loop-again Inv-loop μ-loop
-loop-again c = (
-  search needs,
-  filled-more _ (search needs) (toZ-ofZ w8 (c .signed .result) (record { sfits = c .signed .ok }) ∙ c .signed .ensures) (c .before .before .before .loop .inv .1),
-)
-
-same-length : tie.Need-same-length Inv-loop μ-loop
+same-length : tie.Need-same-length
 same-length c = search needs
 
-returns : tie.Need-returns Inv-loop μ-loop
-returns c = filled-at (omega arith) (omega arith) (c .before .loop .inv .1)
+returns-2 : tie.Need-returns-2
+returns-2 c =
+    let k = c .before in
+    let s = k .before .before in
+    let a = s .before .before .before .args in
+    let rule = sampleOf (now (a .stretch)) (a .channel) in
+    k .copy-channel .ensures
+    ∙ ap (over (now (a .out)) rule) (s .smaller .ensures)
+    ∙ sym (ap (λ (t : Bool). over (now (a .out)) rule (cond t 0 (min (length (now (a .stretch)) / 4) (length (now (a .out)))))) (s .before .if1 .left))
 
 pub demultiplex-spec : {M : Type 1} → statement M
 demultiplex-spec =
-    tie.close
-    (tie.spec
-    Inv-loop
-    μ-loop
-    sub-place
-    loop-holds
-    mul-signed
-    add-signed
-    shared-slice-read-signed
-    signed-requires
-    slice-set-from-sample
-    add-k
-    loop-less
-    loop-again
-    same-length
-    returns)
+    tie.close (tie.spec returns smaller-requires copy-channel-requires same-length returns-2)

@@ -1,91 +1,75 @@
--- `channels::multiplex` meets its contract: the stretch's first 4k bytes are those of the first k samples. Assumes nothing.
-use Prim.Native.Nat.{_≤_, _+_, _*_, _-_}
-use native.Mathlib.Omega.{arith}
+-- As many samples as all hold, into the front of the stretch. Assumes nothing.
+use Prim.Native.Nat.{ℕ, _*_, _/_, min}
+use mathlib.Core.Path.{ap, sym, _∙_}
+use mathlib.Core.List.{List, _++_}
+use denote.Ref.{now}
+use lib.ListN.{length, drop}
+use lib.Seq.{length-take-le}
+use Rattle.channels.specs.Sample.{interleaved}
+use Rattle.channels.proofs.Room.{all-held}
 use borrow.Author.Needs.{needs}
-use Rattle.lists.proofs.Fill.{filled-none}
-use Rattle.channels.specs.Sample.{channelOf}
-use Rattle.channels.proofs.Interleave.{Bytes, bytes-more, bytes-all}
 use Rattle.channels.proofs.multiplex.Statement.{statement}
 use Rattle.channels.proofs.multiplex.Tie as tie
 
-abbrev Inv-loop : tie.InvT-loop
-Inv-loop stretch₀ count one two three four k₀ stretch k = (k ≤ count) × Bytes one two three four stretch₀ (4 * k) stretch
+smaller-requires : tie.Need-smaller-requires
+smaller-requires c κs = search needs
 
-abbrev μ-loop : tie.MeasureT-loop
-μ-loop stretch₀ count one two three four k₀ stretch k = count - k
+smaller-requires-2 : tie.Need-smaller-requires-2
+smaller-requires-2 c κs = search needs
 
-loop-holds : tie.Need-loop-holds Inv-loop μ-loop
-loop-holds c = (search needs, filled-none _ _ _)
+smaller-requires-3 : tie.Need-smaller-requires-3
+smaller-requires-3 c κs = search needs
 
-mul-first : tie.Need-mul-first Inv-loop μ-loop
-mul-first c = search needs
+smaller-requires-4 : tie.Need-smaller-requires-4
+smaller-requires-4 c κs = search needs
 
-store-requires : tie.Need-store-requires Inv-loop μ-loop
-store-requires c κs = search needs
+mul-end : tie.Need-mul-end
+mul-end c = search needs
 
-add-store : tie.Need-add-store Inv-loop μ-loop
-add-store c = search needs
+slice-relend-prefix-store-sets : tie.Need-slice-relend-prefix-store-sets
+slice-relend-prefix-store-sets c = search needs
 
-store-requires-2 : tie.Need-store-requires-2 Inv-loop μ-loop
-store-requires-2 c κs = search needs
+slice-aggregate-store-sets : tie.Need-slice-aggregate-store-sets
+slice-aggregate-store-sets c =
+    let q = c .before in
+    let a = q .before .before .before .before .before .args in
+    let h = all-held (length (now (a .stretch))) (length (now (a .one))) (length (now (a .two))) (length (now (a .three))) (length (now (a .four))) (q .smaller4 .result) (q .before .before .before .smaller .result) (q .before .before .smaller2 .result) (q .before .smaller3 .result)
+    (q .before .before .before .smaller .ensures) (q .before .before .smaller2 .ensures) (q .before .smaller3 .ensures) (q .smaller4 .ensures) in
+    sym (length-take-le (4 * q .smaller4 .result) (now (a .stretch)) (h .room))
 
-add-store-2 : tie.Need-add-store-2 Inv-loop μ-loop
-add-store-2 c = search needs
+store-sets-requires : tie.Need-store-sets-requires
+store-sets-requires c κs =
+    let q = c .before in
+    let a = q .before .before .before .before .before .args in
+    let h = all-held (length (now (a .stretch))) (length (now (a .one))) (length (now (a .two))) (length (now (a .three))) (length (now (a .four))) (q .smaller4 .result) (q .before .before .before .smaller .result) (q .before .before .smaller2 .result) (q .before .smaller3 .result)
+    (q .before .before .before .smaller .ensures) (q .before .before .smaller2 .ensures) (q .before .smaller3 .ensures) (q .smaller4 .ensures) in
+    (length-take-le (4 * q .smaller4 .result) (now (a .stretch)) (h .room), ((h .first, h .second), (h .third, h .fourth)))
 
-store-requires-3 : tie.Need-store-requires-3 Inv-loop μ-loop
-store-requires-3 c κs = search needs
-
-add-store-3 : tie.Need-add-store-3 Inv-loop μ-loop
-add-store-3 c = search needs
-
-store-requires-4 : tie.Need-store-requires-4 Inv-loop μ-loop
-store-requires-4 c κs = search needs
-
-add-k : tie.Need-add-k Inv-loop μ-loop
-add-k c = search needs
-
-loop-less : tie.Need-loop-less Inv-loop μ-loop
-loop-less c = search needs
-
-loop-again : tie.Need-loop-again Inv-loop μ-loop
-unfolding channelOf
-loop-again c =
-    let four = c .before .before in
-    let three = four .before .before .before .before in
-    let two = three .before .before .before .before in
-    let one = two .before .before .before .before in
-    let k = one .before .before .before .loop .k in (
-      search needs,
-      bytes-more _ _ _ _ (4 * k + 3) (4 * (k + 1)) k 3 (search needs) (four .store4 .ensures)
-          (bytes-more _ _ _ _ (4 * k + 2) (4 * k + 3) k 2 (search needs) (three .store3 .ensures)
-          (bytes-more _ _ _ _ (4 * k + 1) (4 * k + 2) k 1 (search needs) (two .store2 .ensures)
-          (bytes-more _ _ _ _ (4 * k) (4 * k + 1) k 0 (search needs) (one .store .ensures)
-          (one .before .before .before .loop .inv .1)))),
-    )
-
-same-length : tie.Need-same-length Inv-loop μ-loop
+same-length : tie.Need-same-length
 same-length c = search needs
 
-returns : tie.Need-returns Inv-loop μ-loop
-returns c = bytes-all _ _ _ _ _ _ (omega arith) (omega arith) (c .before .loop .inv .1)
+returns : tie.Need-returns
+returns c =
+    let s = c .before .before in
+    let q = s .before .before in
+    let a = q .before .before .before .before .before .args in
+    let e =
+    q .smaller4 .ensures
+    ∙ ap (min (length (now (a .stretch)) / 4)) (q .before .smaller3 .ensures ∙ (λ i. min (q .before .before .before .smaller .ensures i) (q .before .before .smaller2 .ensures i))) in
+    ap (λ (l : List ℕ). l ++ drop (4 * q .smaller4 .result) (now (a .stretch))) (s .store-sets .ensures)
+    ∙ (λ i. interleaved (e i) (now (a .one)) (now (a .two)) (now (a .three)) (now (a .four)) ++ drop (4 * e i) (now (a .stretch)))
 
 pub multiplex-spec : {M : Type 1} → statement M
 multiplex-spec =
     tie.close
     (tie.spec
-    Inv-loop
-    μ-loop
-    loop-holds
-    mul-first
-    store-requires
-    add-store
-    store-requires-2
-    add-store-2
-    store-requires-3
-    add-store-3
-    store-requires-4
-    add-k
-    loop-less
-    loop-again
+    smaller-requires
+    smaller-requires-2
+    smaller-requires-3
+    smaller-requires-4
+    mul-end
+    slice-relend-prefix-store-sets
+    slice-aggregate-store-sets
+    store-sets-requires
     same-length
     returns)

@@ -1,34 +1,41 @@
--- A field read, decimal or binary. Assumes nothing.
-use mathlib.Core.Path.{_∙_}
+-- A field that is readable, or none. Assumes nothing.
+use Prim.Native.Nat.{ℕ}
+use mathlib.Core.Path.{_≡_, ap, sym, _∙_}
+use mathlib.Core.Bool.{Bool, true, cond, not, _||_}
+use mathlib.Core.List.{List}
 use denote.Ref.{now}
-use Rattle.fields.proofs.Steps.{read-decimal, read-binary}
+use Rattle.lists.proofs.Truth.{held}
+use Rattle.fields.specs.Field.{readable, valueOf, withValue, digitsGood}
+use Rattle.fields.proofs.OneField.{is-readable}
 use borrow.Author.Needs.{needs}
 use Rattle.fields.proofs.read_field.Statement.{statement}
 use Rattle.fields.proofs.read_field.Tie as tie
+use Rattle.fields.proofs.read_field.Reads as reads
+use Rattle.fields.proofs.read_field.Lts as lts
+use Rattle.fields.proofs.is_readable.Reads as is-readable-reads
+use Rattle.fields.proofs.value_of.Reads as value-of-reads
 
-first-bit-requires : tie.Need-first-bit-requires
-first-bit-requires c κs = search needs
+-- src/lib.rt:46:8
+is-readable-requires : tie.Need-is-readable-requires
+is-readable-requires c κs = search needs
 
-read-bits-requires : tie.Need-read-bits-requires
-read-bits-requires c κs = search needs
+-- src/lib.rt:47:9
+value-of-requires : tie.Need-value-of-requires
+value-of-requires c κs = is-readable _ (held _ (sym (c .before .is-readable .ensures) ∙ c .if1 .taken))
 
-decimal-value-requires : tie.Need-decimal-value-requires
-decimal-value-requires c κs = search needs
-
+-- src/lib.rt:47:9
 returns : tie.Need-returns
 returns c =
     let r = c .before .before in
-    let a = r .before .before .before .args in
-    c .decimal-value .ensures
-    ∙ read-decimal (a .f) (now (a .bytes)) (r .before .first-bit .result) (r .read-bits .result) (r .before .first-bit .ensures) (r .read-bits .ensures .0) (c .before .if1 .taken)
+    let a = r .before .before .args in
+    c .value-of .ensures ∙ sym (ap (λ (t : Bool). cond t (valueOf (a .f) (now (a .bytes))) 0) (sym (r .is-readable .ensures) ∙ c .before .if1 .taken))
 
+-- src/lib.rt:43:1
 returns-2 : tie.Need-returns-2
 returns-2 c =
     let r = c .before in
-    let a = r .before .before .before .args in
-    read-binary (a .f) (now (a .bytes)) (r .before .first-bit .result) (r .read-bits .result) (r .before .first-bit .ensures) (r .read-bits .ensures .0) (c .if1 .left)
+    let a = r .before .before .args in
+    sym (ap (λ (t : Bool). cond t (valueOf (a .f) (now (a .bytes))) 0) (sym (r .is-readable .ensures) ∙ c .if1 .left))
 
 pub read-field-spec : {M : Type 1} → statement M
-read-field-spec =
-    tie.close
-    (tie.spec first-bit-requires read-bits-requires decimal-value-requires returns returns-2)
+read-field-spec = tie.close (tie.spec is-readable-requires value-of-requires returns returns-2)

@@ -1,55 +1,47 @@
--- A field written, decimal or binary. Assumes nothing.
-use mathlib.Core.Path.{_∙_}
+-- A field that is readable, or none. Assumes nothing.
+use Prim.Native.Nat.{ℕ}
+use mathlib.Core.Path.{_≡_, ap, sym, _∙_}
+use mathlib.Core.Bool.{Bool, true, cond, not, _||_}
+use mathlib.Core.List.{List}
 use denote.Ref.{now}
-use Rattle.fields.proofs.Steps.{written-decimal, written-binary}
+use Rattle.lists.proofs.Truth.{held}
+use Rattle.fields.specs.Field.{readable, valueOf, withValue, digitsGood}
+use Rattle.fields.proofs.OneField.{is-readable}
 use borrow.Author.Needs.{needs}
 use Rattle.fields.proofs.write_field.Statement.{statement}
 use Rattle.fields.proofs.write_field.Tie as tie
+use Rattle.fields.proofs.write_field.Reads as reads
+use Rattle.fields.proofs.write_field.Lts as lts
+use Rattle.fields.proofs.is_readable.Reads as is-readable-reads
+use Rattle.fields.proofs.put_value.Reads as put-value-reads
 
-first-bit-requires : tie.Need-first-bit-requires
-first-bit-requires c κs = search needs
+-- src/lib.rt:94:8
+is-readable-requires : tie.Need-is-readable-requires
+is-readable-requires c κs = search needs
 
-decimal-code-requires : tie.Need-decimal-code-requires
-decimal-code-requires c κs = search needs
+-- src/lib.rt:95:9
+put-value-requires : tie.Need-put-value-requires
+put-value-requires c κs = is-readable _ (held _ (sym (c .before .before .is-readable .ensures) ∙ c .before .if1 .taken))
 
-write-bits-requires : tie.Need-write-bits-requires
-write-bits-requires c κs = search needs
-
+-- src/lib.rt:91:1
 same-length : tie.Need-same-length
 same-length c = search needs
 
+-- src/lib.rt:91:1
 returns : tie.Need-returns
 returns c =
-    let w = c .before .before in
-    let d = w .before .before in
-    let p = d .before .before in
-    let a = p .before .before .args in
-    w .write-bits .ensures
-    ∙ written-decimal (a .f) (a .value) (now (a .bytes)) (p .first-bit .result) (p .first-bit .ensures) (d .decimal-code .result) (d .decimal-code .ensures) (d .before .if1 .taken)
+    let p = c .before .before in
+    let t = p .before .before in
+    let a = t .before .before .before .args in
+    p .put-value .ensures ∙ sym (ap (λ (t : Bool). cond t (withValue (a .f) (a .value) (now (a .bytes))) (now (a .bytes))) (sym (t .before .is-readable .ensures) ∙ t .if1 .taken))
 
-write-bits-requires-2 : tie.Need-write-bits-requires-2
-write-bits-requires-2 c κs = search needs
-
-same-length-2 : tie.Need-same-length-2
-same-length-2 c = search needs
-
+-- src/lib.rt:91:1
 returns-2 : tie.Need-returns-2
 returns-2 c =
-    let w = c .before .before in
-    let e = w .before .before in
-    let p = e .before in
-    let a = p .before .before .args in
-    w .write-bits2 .ensures ∙ written-binary (a .f) (a .value) (now (a .bytes)) (p .first-bit .result) (p .first-bit .ensures) (e .if1 .left)
+    let r = c .before in
+    let a = r .before .before .args in
+    sym (ap (λ (t : Bool). cond t (withValue (a .f) (a .value) (now (a .bytes))) (now (a .bytes))) (sym (r .is-readable .ensures) ∙ c .if1 .left))
 
 pub write-field-spec : {M : Type 1} → statement M
 write-field-spec =
-    tie.close
-    (tie.spec
-    first-bit-requires
-    decimal-code-requires
-    write-bits-requires
-    same-length
-    returns
-    write-bits-requires-2
-    same-length-2
-    returns-2)
+    tie.close (tie.spec is-readable-requires put-value-requires same-length returns returns-2)

@@ -8,7 +8,6 @@ use Rattle.fields.specs.Field.{binaryFits}
 use Rattle.fields.specs.Table.{allFit}
 use Rattle.fields.proofs.Tables.{fit-turn, fit-ended}
 use Rattle.header.specs.Format.{fields}
-use Rattle.header.proofs.Sound.{row-readable}
 use Rattle.header.proofs.values_fit.Statement.{statement}
 use Rattle.header.proofs.values_fit.Tie as tie
 
@@ -34,7 +33,7 @@ array-read-fits-binary : tie.Need-array-read-fits-binary Inv-loop μ-loop
 array-read-fits-binary c = search needs
 
 fits-binary-requires : tie.Need-fits-binary-requires Inv-loop μ-loop
-fits-binary-requires c κs = row-readable (c .before .before .loop .k) (search needs)
+fits-binary-requires c κs = search needs
 
 add-k : tie.Need-add-k Inv-loop μ-loop
 add-k c = search needs

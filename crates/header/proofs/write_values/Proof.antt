@@ -2,12 +2,12 @@
 use mathlib.Core.Path.{_≡_, refl, ap, sym, _∙_}
 use Prim.Native.Nat.{_+_, _-_, _≤_}
 use denote.Ref.{now}
-use lib.ListN.{length, drop}
+use lib.ListN.{length, drop, getD}
 use borrow.Author.Needs.{needs}
 use Rattle.fields.specs.Table.{writeAll}
 use Rattle.fields.proofs.Tables.{write-turn, write-ended, length-write}
 use Rattle.header.specs.Format.{fields}
-use Rattle.header.proofs.Sound.{row-readable}
+use Rattle.header.proofs.Sound.{row-written}
 use Rattle.header.proofs.write_values.Statement.{statement}
 use Rattle.header.proofs.write_values.Tie as tie
 
@@ -33,7 +33,7 @@ array-read-write-field : tie.Need-array-read-write-field Inv-loop μ-loop
 array-read-write-field c = search needs
 
 write-field-requires : tie.Need-write-field-requires Inv-loop μ-loop
-write-field-requires c κs = row-readable (c .before .before .before .loop .k) (search needs)
+write-field-requires c κs = search needs
 
 add-k : tie.Need-add-k Inv-loop μ-loop
 add-k c = search needs
@@ -48,7 +48,7 @@ loop-again c =
     let v = l .before .before .args .t2 in
     let k = l .loop .k in (
       search needs,
-      ap (writeAll (drop (k + 1) fields) (drop (k + 1) v)) (w .write-field .ensures)
+      ap (writeAll (drop (k + 1) fields) (drop (k + 1) v)) (w .write-field .ensures ∙ row-written k (getD v k 0) (l .loop .bytes) (search needs))
           ∙ write-turn fields v k (search needs) (search needs) (l .loop .bytes) ∙ l .loop .inv .1,
     )
 

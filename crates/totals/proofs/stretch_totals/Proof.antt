@@ -1,58 +1,19 @@
--- `totals::stretch_totals` meets its contract. The loop's invariant: the totals are the running totals of k samples a channel.
--- Assumes nothing.
-use mathlib.Core.Path.{_≡_, refl, ap, _∙_}
-use Prim.Native.Nat.{_≤_, _-_}
-use native.Mathlib.Nat.{pos-of-ne-zero}
-use native.Mathlib.Omega.{arith}
-use Rattle.totals.specs.Total.{sumOf, squaresOf, keptOf, totalOf, totalsOf}
-use Rattle.totals.specs.Running.{runningOf, runningsOf}
-use Rattle.totals.proofs.Running.{runnings-totals}
+-- The whole stretch, up to the most samples that one call takes. Assumes nothing.
+use mathlib.Core.Path.{ap, _∙_}
+use denote.Ref.{now}
+use Rattle.totals.specs.Total.{totalsOf}
+use borrow.Author.Needs.{needs}
 use Rattle.totals.proofs.stretch_totals.Statement.{statement}
 use Rattle.totals.proofs.stretch_totals.Tie as tie
 
-abbrev Inv-loop : tie.InvT-loop
-Inv-loop stretch count totals₀ k₀ totals k = (k ≤ count) × (totals ≡ runningsOf stretch k)
+smaller-requires : tie.Need-smaller-requires
+smaller-requires c κs = search needs
 
-abbrev μ-loop : tie.MeasureT-loop
-μ-loop stretch count totals₀ k₀ totals k = count - k
+sum-sets-requires : tie.Need-sum-sets-requires
+sum-sets-requires c κs = search needs
 
-returns : tie.Need-returns Inv-loop μ-loop
-unfolding totalsOf totalOf sumOf squaresOf keptOf
-returns c = rw (c .if1 .taken)
-
-loop-holds : tie.Need-loop-holds Inv-loop μ-loop
-unfolding runningsOf runningOf sumOf squaresOf
-loop-holds c = (omega arith, refl)
-
-with-samples-requires : tie.Need-with-samples-requires Inv-loop μ-loop
-with-samples-requires c κs = (c .before .loop .inv .1, omega arith, omega arith)
-
-add-k : tie.Need-add-k Inv-loop μ-loop
-add-k c = omega arith
-
-loop-less : tie.Need-loop-less Inv-loop μ-loop
-loop-less c = omega arith
-
-loop-again : tie.Need-loop-again Inv-loop μ-loop
-loop-again c = (omega arith, c .with-samples .ensures)
-
-returns-2 : tie.Need-returns-2 Inv-loop μ-loop
-returns-2 c =
-    let a = c .before .before .before .before in
-    let l = c .before .loop in
-    let e : l .k ≡ a .args .count = omega arith in
-    l .inv .1 ∙ ap (runningsOf (a .args .stretch .now)) e ∙ runnings-totals (a .args .stretch .now) (a .args .count) (pos-of-ne-zero (c .before .before .if1 .left))
+returns : tie.Need-returns
+returns c = c .sum-sets .ensures ∙ ap (totalsOf (now (c .before .before .before .args .stretch))) (c .before .smaller .ensures)
 
 pub stretch-totals-spec : {M : Type 1} → statement M
-stretch-totals-spec =
-    tie.close
-    (tie.spec
-    Inv-loop
-    μ-loop
-    returns
-    loop-holds
-    with-samples-requires
-    add-k
-    loop-less
-    loop-again
-    returns-2)
+stretch-totals-spec = tie.close (tie.spec smaller-requires sum-sets-requires returns)

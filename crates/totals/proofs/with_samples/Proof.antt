@@ -4,7 +4,8 @@ use mathlib.Core.List.{List}
 use Prim.Native.Nat.{ℕ, suc, _<_}
 use lib.Dec.{lit<, lit≤}
 use Rattle.totals.specs.declared.Total.{Total}
-use Rattle.totals.specs.Running.{countLimit, Room, totalAt, channelNext}
+use Rattle.totals.specs.Running.{Room, totalAt, channelNext}
+use Rattle.totals.specs.Total.{countLimit}
 use Rattle.totals.proofs.Running.{taken, taken-all, taken-room}
 use Rattle.totals.proofs.with_samples.Statement.{statement}
 use Rattle.totals.proofs.with_samples.Tie as tie

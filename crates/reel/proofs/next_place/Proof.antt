@@ -1,0 +1,50 @@
+-- The place after each case of the step. Assumes nothing.
+use mathlib.Core.Path.{_≡_, ap, sym, _∙_}
+use mathlib.Core.List.{List}
+use Prim.Native.Nat.{ℕ}
+use denote.Ref.{now}
+use Rattle.reel.specs.declared.Step.{Step}
+use Rattle.reel.specs.Reel.{Found, stepAt, placeAfter, nextPlace}
+use Rattle.reel.specs.Shown.{shownStep}
+use borrow.Author.Needs.{needs}
+use Rattle.reel.proofs.next_place.Statement.{statement}
+use Rattle.reel.proofs.next_place.Tie as tie
+
+-- by the case r of the step s
+after : (reel : List ℕ) (place : ℕ) (s r : Step) → shownStep s ≡ stepAt reel place → s ≡ r → placeAfter (shownStep r) place ≡ nextPlace reel place
+after reel place s r e is = ap (λ (f : Found). placeAfter f place) (ap shownStep (sym is) ∙ e)
+
+step-at-requires : tie.Need-step-at-requires
+step-at-requires c κs = search needs
+
+enum-known-end : tie.Need-enum-known-end
+enum-known-end c = search needs
+
+enum-told : tie.Need-enum-told
+enum-told c = search needs
+
+enum-told-2 : tie.Need-enum-told-2
+enum-told-2 c = search needs
+
+returns : tie.Need-returns
+returns c =
+    let k = c .before .before .before in
+    let a = k .before .before .args in
+    after (now (a .reel)) (a .place) _ _ (k .step-at .ensures) (c .before .end .given .1)
+
+returns-2 : tie.Need-returns-2
+returns-2 c =
+    let k = c .before .before in
+    let a = k .before .before .args in
+    after (now (a .reel)) (a .place) _ _ (k .step-at .ensures) (c .enum-told .given .1)
+
+returns-3 : tie.Need-returns-3
+returns-3 c =
+    let k = c .before .before in
+    let a = k .before .before .args in
+    after (now (a .reel)) (a .place) _ _ (k .step-at .ensures) (c .enum-told2 .given .1)
+
+pub next-place-spec : {M : Type 1} → statement M
+next-place-spec =
+    tie.close
+    (tie.spec step-at-requires enum-known-end enum-told enum-told-2 returns returns-2 returns-3)

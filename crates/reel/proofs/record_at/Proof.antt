@@ -1,0 +1,111 @@
+-- The bytes of each case of the step; a record lies within its reel. Assumes nothing.
+use mathlib.Core.Path.{_≡_, ap, sym, subst, _∙_}
+use mathlib.Core.List.{List}
+use Prim.Native.Nat.{ℕ, _≤_}
+use native.Mathlib.Omega.{arith}
+use lib.ListN.{length}
+use denote.Ref.{now}
+use Rattle.reel.specs.declared.Step.{Step}
+use Rattle.reel.specs.declared.Step.the-variants.{Record}
+use Rattle.reel.specs.Reel.{Found, stepAt, bytesFound, recordAt}
+use Rattle.reel.specs.Shown.{shownStep}
+use Rattle.reel.proofs.Place.{Stands, Told, told}
+use borrow.Author.Needs.{needs}
+use Rattle.reel.proofs.record_at.Statement.{statement}
+use Rattle.reel.proofs.record_at.Tie as tie
+
+-- by the case r of the step s
+bytes : (reel : List ℕ) (place : ℕ) (s r : Step) → shownStep s ≡ stepAt reel place → s ≡ r → bytesFound (shownStep r) reel ≡ recordAt reel place
+bytes reel place s r e is = ap (λ (f : Found). bytesFound f reel) (ap shownStep (sym is) ∙ e)
+
+within : (reel : List ℕ) (place : ℕ) (s : Step) (start end : ℕ) → shownStep s ≡ stepAt reel place → s ≡ Record start end → (start ≤ end) × (end ≤ length reel)
+within reel place s start end e is =
+    let t : Stands reel place start end = subst (Told reel place) (sym (ap shownStep (sym is) ∙ e)) (told reel place) in
+    (omega (arith, t .header), t .inside)
+
+step-at-requires : tie.Need-step-at-requires
+step-at-requires c κs = search needs
+
+enum-known-start : tie.Need-enum-known-start
+enum-known-start c = search needs
+
+sub-result : tie.Need-sub-result
+sub-result c =
+    let k = c .before .before .before in
+    let a = k .before .before .args in
+    within (now (a .reel)) (a .place) _ _ _ (k .step-at .ensures) (c .before .start .given .1) .0
+
+part-result-start : tie.Need-part-result-start
+part-result-start c =
+    let k = c .before .before .before in
+    let a = k .before .before .args in
+    within (now (a .reel)) (a .place) _ _ _ (k .step-at .ensures) (c .before .start .given .1) .0
+
+part-result-end : tie.Need-part-result-end
+part-result-end c =
+    let k = c .before .before .before in
+    let a = k .before .before .args in
+    within (now (a .reel)) (a .place) _ _ _ (k .step-at .ensures) (c .before .start .given .1) .1
+
+enum-told : tie.Need-enum-told
+enum-told c = search needs
+
+sub-result-2 : tie.Need-sub-result-2
+sub-result-2 c = search needs
+
+part-result-start-2 : tie.Need-part-result-start-2
+part-result-start-2 c = search needs
+
+part-result-end-2 : tie.Need-part-result-end-2
+part-result-end-2 c = search needs
+
+enum-told-2 : tie.Need-enum-told-2
+enum-told-2 c = search needs
+
+sub-result-3 : tie.Need-sub-result-3
+sub-result-3 c = search needs
+
+part-result-start-3 : tie.Need-part-result-start-3
+part-result-start-3 c = search needs
+
+part-result-end-3 : tie.Need-part-result-end-3
+part-result-end-3 c = search needs
+
+returns : tie.Need-returns
+returns c =
+    let k = c .before .before .before .before in
+    let a = k .before .before .args in
+    bytes (now (a .reel)) (a .place) _ _ (k .step-at .ensures) (c .before .before .start .given .1)
+
+returns-2 : tie.Need-returns-2
+returns-2 c =
+    let k = c .before .before .before in
+    let a = k .before .before .args in
+    bytes (now (a .reel)) (a .place) _ _ (k .step-at .ensures) (c .before .enum-told .given .1)
+
+returns-3 : tie.Need-returns-3
+returns-3 c =
+    let k = c .before .before .before in
+    let a = k .before .before .args in
+    bytes (now (a .reel)) (a .place) _ _ (k .step-at .ensures) (c .before .enum-told2 .given .1)
+
+pub record-at-spec : {M : Type 1} → statement M
+record-at-spec =
+    tie.close
+    (tie.spec
+    step-at-requires
+    enum-known-start
+    sub-result
+    part-result-start
+    part-result-end
+    enum-told
+    sub-result-2
+    part-result-start-2
+    part-result-end-2
+    enum-told-2
+    sub-result-3
+    part-result-start-3
+    part-result-end-3
+    returns
+    returns-2
+    returns-3)

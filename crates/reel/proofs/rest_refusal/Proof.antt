@@ -1,0 +1,63 @@
+-- 1, 2, then the record's own refusal. Assumes nothing.
+use Prim.Native.Nat.{ℕ, _*_}
+use mathlib.Core.Path.{_≡_, refl, ap, sym, _∙_}
+use mathlib.Core.Bool.{Bool, true, false, _||_}
+use mathlib.Core.List.{List, [], _∷_}
+use lib.Dec.{ltb}
+use lib.ListN.{length, take}
+use lib.Seq.{length-take-le}
+use denote.Ref.{now}
+use borrow.Author.Tests.{lt-ltb, le-ltb}
+use Rattle.record.specs.Refusal.{_when_, first, _then_}
+use Rattle.record.specs.Record.{recordRefusal}
+use Rattle.reel.specs.Reel.{wordThree, restChecks, restRefusal}
+use borrow.Author.Needs.{needs}
+use Rattle.reel.proofs.rest_refusal.Statement.{statement}
+use Rattle.reel.proofs.rest_refusal.Tie as tie
+
+-- the definition at the word w that was read
+module _ (rest : List ℕ) (w : ℕ) (e : w ≡ wordThree rest) where
+  read : first (restChecks (length rest) w) then recordRefusal (take (2 * w) rest) ≡ restRefusal rest
+  unfolding restRefusal
+  read = ap (λ (v : ℕ). first (restChecks (length rest) v) then recordRefusal (take (2 * v) rest)) e
+
+  -- by what the two tests of the code told
+  by-tests : (a b : Bool) → ltb (length rest) 80 || ltb w 40 ≡ a → ltb (length rest) (2 * w) ≡ b
+      → first (1 when a ∷ 2 when b ∷ []) then recordRefusal (take (2 * w) rest) ≡ restRefusal rest
+  by-tests a b p q = sym (λ i. first (1 when p i ∷ 2 when q i ∷ []) then recordRefusal (take (2 * w) rest)) ∙ read
+
+word-3-requires : tie.Need-word-3-requires
+word-3-requires c κs = search needs
+
+returns : tie.Need-returns
+returns c =
+    let k = c .before in
+    by-tests (now (k .before .before .args .rest)) (k .word-3 .result) (k .word-3 .ensures .0) true _ (c .if1 .taken) refl
+
+mul-size : tie.Need-mul-size
+mul-size c = search needs
+
+returns-2 : tie.Need-returns-2
+returns-2 c =
+    let k = c .before .before in
+    by-tests (now (k .before .before .args .rest)) (k .word-3 .result) (k .word-3 .ensures .0) false true (c .before .if1 .left) (lt-ltb _ _ (c .if2 .taken))
+
+slice-aggregate-accept : tie.Need-slice-aggregate-accept
+slice-aggregate-accept c =
+    let k = c .before .before .before in
+    sym (length-take-le (2 * k .word-3 .result) (now (k .before .before .args .rest)) (c .before .if2 .left))
+
+accept-requires : tie.Need-accept-requires
+accept-requires c κs = search needs
+
+returns-3 : tie.Need-returns-3
+returns-3 c =
+    let l = c .before .before in
+    let k = l .before .before in
+    c .accept .ensures
+    ∙ by-tests (now (k .before .before .args .rest)) (k .word-3 .result) (k .word-3 .ensures .0) false false (l .before .if1 .left) (le-ltb _ _ (l .if2 .left))
+
+pub rest-refusal-spec : {M : Type 1} → statement M
+rest-refusal-spec =
+    tie.close
+    (tie.spec word-3-requires returns mul-size returns-2 slice-aggregate-accept accept-requires returns-3)

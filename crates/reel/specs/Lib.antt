@@ -1,0 +1,4 @@
+pub mod Reel
+pub mod Shown
+pub mod Walk
+pub mod Reader

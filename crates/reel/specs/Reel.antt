@@ -1,0 +1,66 @@
+-- What stands at a place of a reel, its record, and the place after it. 01: "A reel is records back to back. ... Nothing left,
+-- or a place past the end: finished. Fewer than 80 bytes left, or word 3 below 40: 1. Twice word 3 above what is left: 2.
+-- Then 3 to 11. A refusal doesn't move the place."
+use Prim.Native.Nat.{ℕ, _+_, _-_, _*_}
+use mathlib.Core.Bool.{cond, _||_}
+use mathlib.Core.List.{List, [], _∷_}
+use lib.Dec.{eqb, leb, ltb}
+use lib.ListN.{length, take, drop}
+use Rattle.fields.specs.Field.{word_, valueOf}
+use Rattle.record.specs.Refusal.{Check, _when_, first, _then_}
+use Rattle.record.specs.Record.{headerBytes, recordRefusal}
+
+-- words of the header
+abbrev pub headerWords : ℕ
+headerWords = 40
+
+-- word 3 of what is left of a reel: the length in words of the record there
+unfoldable pub wordThree : List ℕ → ℕ
+wordThree rest = valueOf (word 3) rest
+
+-- 1 and 2, for this many bytes left and this word 3
+abbrev pub restChecks : ℕ → ℕ → List Check
+restChecks left words =
+    1 when (ltb left headerBytes || ltb words headerWords) ∷
+    2 when ltb left (2 * words) ∷
+    []
+
+-- the refusal of the record that what is left begins with, or 0: 1, 2, then that of its own bytes, which is 3 to 11 (proofs/Rest)
+unfoldable pub restRefusal : List ℕ → ℕ
+restRefusal rest =
+    first (restChecks (length rest) (wordThree rest)) then recordRefusal (take (2 * wordThree rest) rest)
+
+-- a record from its start to its end, or nothing more, or a refusal
+pub data Found : Type 0 where
+  accepted : ℕ → ℕ → Found
+  finished : Found
+  refused : ℕ → Found
+
+-- what stands at a place that is not past the end, by what is left
+abbrev pub foundIn : ℕ → List ℕ → Found
+foundIn place rest =
+    cond (eqb (restRefusal rest) 0) (accepted place (place + 2 * wordThree rest)) (refused (restRefusal rest))
+
+-- what stands at a place of a reel
+unfoldable pub stepAt : List ℕ → ℕ → Found
+stepAt reel place = cond (leb (length reel) place) finished (foundIn place (drop place reel))
+
+-- the bytes of what was found: a record's own, else none
+abbrev pub bytesFound : Found → List ℕ → List ℕ
+bytesFound (accepted start end) reel = take (end - start) (drop start reel)
+bytesFound finished reel = []
+bytesFound (refused n) reel = []
+
+-- the place after what was found: a record's end, else the place itself
+abbrev pub placeAfter : Found → ℕ → ℕ
+placeAfter (accepted start end) place = end
+placeAfter finished place = place
+placeAfter (refused n) place = place
+
+-- the record at a place, empty where there is none
+abbrev pub recordAt : List ℕ → ℕ → List ℕ
+recordAt reel place = bytesFound (stepAt reel place) reel
+
+-- the place after a step
+abbrev pub nextPlace : List ℕ → ℕ → ℕ
+nextPlace reel place = placeAfter (stepAt reel place) place

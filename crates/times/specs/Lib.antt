@@ -1,0 +1,3 @@
+pub mod SampleTime
+pub mod Phases
+pub mod Shown
