@@ -1,5 +1,6 @@
 pub mod Refusals
 pub mod Length
+pub mod Judging
 pub mod Accepted
 pub mod Signs
 pub mod RoundTrip

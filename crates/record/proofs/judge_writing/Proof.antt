@@ -1,14 +1,15 @@
 -- As a reader would judge, then 22. Assumes nothing.
 use Prim.Native.Nat.{ℕ}
-use mathlib.Core.Path.{_≡_, _∙_, ap, sym}
+use Rattle.record.proofs.Judging.{of-header}
+use mathlib.Core.Path.{_∙_, ap, sym}
 use mathlib.Core.Bool.{Bool, not}
 use mathlib.Core.List.{[], _∷_}
-use Rattle.fields.specs.Field.{decimalFits, binaryFits}
+use Rattle.fields.specs.Field.{binaryFits}
 use Rattle.fields.specs.Table.{allFit}
 use Rattle.header.specs.Format.{fields}
 use Rattle.header.specs.Header.{values}
 use Rattle.record.specs.Refusal.{_when_, first}
-use Rattle.record.specs.Record.{checks, writeRefusal}
+use Rattle.record.specs.Record.{writeRefusal}
 use Rattle.record.proofs.Refusals.{then-none, then-some}
 use borrow.Author.Needs.{needs}
 use Rattle.record.proofs.judge_writing.Statement.{statement}
@@ -25,8 +26,7 @@ unfolding writeRefusal
 returns c =
     let j = c .before in
     let a = j .before .before .args in
-    let e : j .judge .result ≡ first (checks (a .bytes) (a .h) (allFit decimalFits fields (values (a .h)))) =
-    j .judge .ensures ∙ ap (λ (d : Bool). first (checks (a .bytes) (a .h) d)) (j .before .decimals-fit .ensures) in
+    let e = of-header (a .bytes) (a .h) (j .judge .ensures) (j .before .decimals-fit .ensures) in
     let w : ℕ = first (22 when not (allFit binaryFits fields (values (a .h))) ∷ []) in
     e ∙ sym (then-some _ w (λ z. c .if1 .taken (e ∙ z)))
 
@@ -38,8 +38,7 @@ unfolding writeRefusal
 returns-2 c =
     let j = c .before .before .before in
     let a = j .before .before .args in
-    let e : j .judge .result ≡ first (checks (a .bytes) (a .h) (allFit decimalFits fields (values (a .h)))) =
-    j .judge .ensures ∙ ap (λ (d : Bool). first (checks (a .bytes) (a .h) d)) (j .before .decimals-fit .ensures) in
+    let e = of-header (a .bytes) (a .h) (j .judge .ensures) (j .before .decimals-fit .ensures) in
     let w : ℕ = first (22 when not (allFit binaryFits fields (values (a .h))) ∷ []) in
     let good = sym (c .before .binaries-fit .ensures) ∙ c .if2 .taken in
     sym (then-none _ w (sym e ∙ c .before .before .if1 .left) ∙ ap (λ (t : Bool). first (22 when not t ∷ [])) good)
@@ -49,8 +48,7 @@ unfolding writeRefusal
 returns-3 c =
     let j = c .before .before .before in
     let a = j .before .before .args in
-    let e : j .judge .result ≡ first (checks (a .bytes) (a .h) (allFit decimalFits fields (values (a .h)))) =
-    j .judge .ensures ∙ ap (λ (d : Bool). first (checks (a .bytes) (a .h) d)) (j .before .decimals-fit .ensures) in
+    let e = of-header (a .bytes) (a .h) (j .judge .ensures) (j .before .decimals-fit .ensures) in
     let w : ℕ = first (22 when not (allFit binaryFits fields (values (a .h))) ∷ []) in
     let bad = sym (c .before .binaries-fit .ensures) ∙ c .if2 .left in
     sym (then-none _ w (sym e ∙ c .before .before .if1 .left) ∙ ap (λ (t : Bool). first (22 when not t ∷ [])) bad)

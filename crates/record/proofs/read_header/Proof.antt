@@ -1,16 +1,15 @@
 -- The header is shown where its record is accepted. Assumes nothing.
 use Prim.Native.Nat.{ℕ}
-use mathlib.Core.Path.{_≡_, _∙_, ap, sym}
+use mathlib.Core.Path.{_∙_, ap, sym}
 use mathlib.Core.List.{List, []}
 use denote.Ref.{now}
-use lib.ListN.{length}
+use Rattle.record.proofs.Judging.{of-bytes}
 use Rattle.fields.specs.Table.{readAll}
 use Rattle.header.specs.Format.{fields}
 use Rattle.header.specs.Header.{values}
 use Rattle.header.proofs.Sound.{values-header}
 use Rattle.record.specs.Answer.{accepted, refused}
-use Rattle.record.specs.Refusal.{first}
-use Rattle.record.specs.Record.{checks, recordRefusal, headerAnswer}
+use Rattle.record.specs.Record.{recordRefusal, headerAnswer}
 use Rattle.record.proofs.Refusals.{unless-none, unless-some}
 use borrow.Author.Needs.{needs}
 use Rattle.record.proofs.read_header.Statement.{statement}
@@ -26,24 +25,22 @@ judge-requires : tie.Need-judge-requires
 judge-requires c κs = search needs
 
 returns : tie.Need-returns
-unfolding recordRefusal headerAnswer
+unfolding headerAnswer
 returns c =
     let j = c .before in
     let g = j .before in
     let b = now (g .before .before .before .args .bytes) in
-    let e : j .judge .result ≡ recordRefusal b =
-    j .judge .ensures ∙ (λ i. first (checks (length b) (g .before .read-fields .ensures i) (g .good-digits .ensures i))) in
+    let e = of-bytes b (j .judge .ensures) (g .before .read-fields .ensures) (g .good-digits .ensures) in
     ap (λ (v : List ℕ). accepted v) (ap values (g .before .read-fields .ensures) ∙ values-header b)
     ∙ unless-none (recordRefusal b) [] (readAll fields b) (sym e ∙ c .if1 .taken)
 
 returns-2 : tie.Need-returns-2
-unfolding recordRefusal headerAnswer
+unfolding headerAnswer
 returns-2 c =
     let j = c .before in
     let g = j .before in
     let b = now (g .before .before .before .args .bytes) in
-    let e : j .judge .result ≡ recordRefusal b =
-    j .judge .ensures ∙ (λ i. first (checks (length b) (g .before .read-fields .ensures i) (g .good-digits .ensures i))) in
+    let e = of-bytes b (j .judge .ensures) (g .before .read-fields .ensures) (g .good-digits .ensures) in
     ap (λ (n : ℕ). refused [] n) e ∙ unless-some (recordRefusal b) [] (readAll fields b) (λ z. c .if1 .left (e ∙ z))
 
 pub read-header-spec : {M : Type 1} → statement M
