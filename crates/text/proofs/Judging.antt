@@ -33,11 +33,11 @@ module _ (out : List ℕ) (at : ℕ) (text : List ℕ) {count : ℕ} {said : Boo
   )
 
 -- where there is room, a line that is put is written
-pub put-written : (out : List ℕ) (at : ℕ) (text : List ℕ) {answer : Shown} {after : List ℕ} → Room out at text → answer ≡ putText out at text → after ≡ textAfter out at text
-    → Written out at text (answer .next) after
-put-written out at text r a b =
+pub put-written : (out : List ℕ) (at : ℕ) (text : List ℕ) {answer : Shown} {n : ℕ} {after : List ℕ} → Room out at text
+    → n ≡ answer .next → answer ≡ putText out at text → after ≡ textAfter out at text → Written out at text n after
+put-written out at text r e a b =
     let fit : fits out at text ≡ true = le-leb (at + length text) (length out) (r .enough) in
     record {
-      place = ap (λ (s : Shown). s .next) (a ∙ ap (λ (t : Bool). cond t (accepted (at + length text)) (refused 21)) fit);
+      place = e ∙ ap (λ (s : Shown). s .next) (a ∙ ap (λ (t : Bool). cond t (accepted (at + length text)) (refused 21)) fit);
       buffer = b ∙ ap (λ (t : Bool). cond t (sets out at text) out) fit;
     }

@@ -1,0 +1,6 @@
+pub mod Line
+pub mod Along
+pub mod Listed
+pub mod Answers
+pub mod Writing
+pub mod Enough

@@ -1,0 +1,58 @@
+-- What the lister writes, and what a call answers that writes text into a lent buffer. 01: "The lister", refusals 21 and 24. The
+-- lines themselves are in crate `text`, the walk along a reel in crate `reel`.
+use Prim.Native.Nat.{ℕ}
+use mathlib.Core.Bool.{cond}
+use mathlib.Core.List.{List, [], _∷_, _++_}
+use lib.Dec.{eqb, ltb}
+use lib.ListN.{length, drop}
+use Rattle.header.specs.Header.{headerOf}
+use Rattle.record.specs.Answer.{Answer, unless}
+use Rattle.record.specs.FrequencyRate.{rateAnswer}
+use Rattle.record.specs.Record.{recordRefusal}
+use Rattle.record.specs.Refusal.{_when_, first, _then_}
+use Rattle.reel.specs.Reel.{Found, accepted, finished, refused}
+use Rattle.reel.specs.Walk.{walk}
+use Rattle.text.specs.Text.{headerLine, recordLine, refusedLine}
+use Rattle.times.specs.SampleTime.{timeAnswer}
+
+-- 24: "lister's input longer than 65,536 bytes"
+abbrev pub longestInput : ℕ
+longestInput = 65536
+
+-- the line of a record: its number, the time of sample 0, clock origin, readback frequency and frequency rate
+unfoldable pub recordText : List ℕ → List ℕ
+recordText b =
+    recordLine (headerOf b .«record_number») (timeAnswer b 0 .value) (headerOf b .«clock_origin») (headerOf b .«readback_uhz») (rateAnswer b .value)
+
+-- the lines of records, one behind the other
+unfoldable pub recordTexts : List (List ℕ) → List ℕ
+recordTexts [] = []
+recordTexts (b ∷ bs) = recordText b ++ recordTexts bs
+
+-- behind the last record: a line for a refusal, nothing at the end of the reel
+abbrev pub lastText : Found → List ℕ
+lastText (accepted start end) = []
+lastText finished = []
+lastText (refused n) = refusedLine n
+
+-- "The header line comes first"; "24 is judged before any record"; else the records of the walk, and the refusal that ends it
+unfoldable pub listing : List ℕ → List ℕ
+listing input =
+    headerLine
+    ++ cond (ltb longestInput (length input)) (refusedLine 24) (recordTexts (walk input .records) ++ lastText (walk input .last))
+
+-- 21: "text buffer holds fewer bytes than the text"
+abbrev pub textRefusal : List ℕ → List ℕ → ℕ
+textRefusal out text = first (21 when ltb (length out) (length text) ∷ [])
+
+-- for the line of a record: 1 to 11, then 21
+unfoldable pub lineRefusal : List ℕ → List ℕ → ℕ
+lineRefusal b out = recordRefusal b then textRefusal out (recordText b)
+
+-- the answer of a call that writes a text: the text's length, or the refusal n
+abbrev pub textAnswer : ℕ → List ℕ → Answer ℕ
+textAnswer n text = unless n 0 (length text)
+
+-- the buffer after it: the text, then what the buffer held past it; a refusal changes nothing
+abbrev pub bufferAfter : ℕ → List ℕ → List ℕ → List ℕ
+bufferAfter n out text = cond (eqb n 0) (text ++ drop (length text) out) out
