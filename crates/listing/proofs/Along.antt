@@ -1,14 +1,14 @@
 -- Steps along a reel: one step more, how long their lines can be, and that they are the lines of the walk. Assumes nothing.
 use Prim.Native.Nat.{ℕ, zero, suc, _+_, _*_, _-_, _≤_, _<_}
-use mathlib.Core.Path.{_≡_, refl, ap, sym, subst, _∙_}
+use mathlib.Core.Path.{_≡_, refl, ap, sym, _∙_}
 use mathlib.Core.Bool.{Bool, true, false, true≢false}
 use mathlib.Core.List.{List, [], _∷_, _++_}
 use native.Mathlib.Omega.{arith}
 use lib.ListN.{length, length-append}
-use Rattle.record.specs.Record.{headerBytes, recordRefusal}
+use Rattle.record.specs.Record.{recordRefusal}
 use Rattle.record.proofs.Accepted.{record-facts}
 use Rattle.reel.specs.Reel.{Found, accepted, finished, refused, stepAt, bytesFound, recordAt, nextPlace}
-use Rattle.reel.specs.Walk.{Walk, isRecord, stopped, handing, onward, walkFrom}
+use Rattle.reel.specs.Walk.{Walk, isRecord, stopped, onward, walkFrom}
 use Rattle.reel.proofs.Place.{moved, stays}
 use Rattle.listing.specs.Listing.{recordText, recordTexts}
 use Rattle.listing.specs.Steps.{lineOf, linesFrom, placeFrom}

@@ -17,6 +17,7 @@ use Rattle.listing.specs.Listing.{recordText, textRefusal, lineRefusal, 
 
 module _ (n : ℕ) (out text : List ℕ) where
   pub text-refused : {m : ℕ} → m ≡ n → (m ≡ 0 → ⊥) → (refused 0 m ≡ textAnswer n text) × (out ≡ bufferAfter n out text)
+  unfolding textAnswer bufferAfter
   text-refused e some = (
     ap (refused 0) e ∙ unless-some n 0 (length text) (λ z. some (e ∙ z)),
     sym (cond-some n out (text ++ drop (length text) out) (λ z. some (e ∙ z))),
@@ -28,6 +29,7 @@ module _ (n : ℕ) (out text : List ℕ) where
 
   pub text-written : {count : ℕ} {after : List ℕ} → n ≡ 0 → count ≡ length text → count ≤ length out → after ≡ sets out 0 text
       → (accepted count ≡ textAnswer n text) × (after ≡ bufferAfter n out text)
+  unfolding textAnswer bufferAfter
   text-written e f h g = (
     ap accepted f ∙ unless-none n 0 (length text) e,
     g ∙ stored (omega (arith, f)) ∙ sym (cond-none n out (text ++ drop (length text) out) e),
@@ -36,6 +38,7 @@ module _ (n : ℕ) (out text : List ℕ) where
 -- the text's length against the buffer's
 module _ (out text : List ℕ) {count : ℕ} (f : count ≡ length text) where
   judged : (t : Bool) → ltb (length out) count ≡ t → textRefusal out text ≡ first (21 when t ∷ [])
+  unfolding textRefusal
   judged t e = ap (λ (k : ℕ). first (21 when ltb (length out) k ∷ [])) (sym f) ∙ ap (λ (b : Bool). first (21 when b ∷ [])) e
 
   pub too-short : length out < count → 21 ≡ textRefusal out text
@@ -56,6 +59,7 @@ module _ (b out : List ℕ) {n : ℕ} (e : n ≡ recordRefusal b) where
 
 -- the length that is answered lies within the buffer
 pub answer-inside : (out text : List ℕ) (count : ℕ) → accepted count ≡ textAnswer (textRefusal out text) text → count ≤ length out
+unfolding textAnswer textRefusal
 answer-inside out text count e = by-test (ltb (length out) (length text)) refl e
   where
     by-test : (t : Bool) → ltb (length out) (length text) ≡ t → accepted count ≡ textAnswer (first (21 when t ∷ [])) text → count ≤ length out

@@ -2,7 +2,7 @@
 use Prim.Native.Nat.{ℕ, zero, suc, _*_, _^_, _≤_, _<_}
 use mathlib.Core.Path.{_≡_, refl, ap, _∙_}
 use mathlib.Core.Bool.{Bool, true, false, cond}
-use mathlib.Core.List.{List, [], _∷_}
+use mathlib.Core.List.{List}
 use native.Mathlib.Nat.{pow-le-pow-right}
 use native.Mathlib.Omega.{arith}
 use lib.Dec.{T, eqb, lit<, ltb→lt}
@@ -20,12 +20,12 @@ use Rattle.header.specs.declared.Header.{Header}
 use Rattle.header.specs.Header.{headerOf}
 use Rattle.record.specs.Answer.{Answer, unless}
 use Rattle.record.specs.FrequencyRate.{rateUnits, headerRate, rateAnswer}
-use Rattle.record.specs.Record.{recordRefusal, lastMs}
+use Rattle.record.specs.Record.{recordRefusal}
 use Rattle.record.proofs.Accepted.{record-facts, digits-small, power-small}
 use Rattle.record.proofs.Signs.{size-bound}
 use Rattle.text.specs.Text.{recordLine}
 use Rattle.text.proofs.Line.{recordLine-length}
-use Rattle.times.specs.SampleTime.{timeOf, timeRefusal, timeAnswer}
+use Rattle.times.specs.SampleTime.{timeRefusal, timeAnswer}
 use Rattle.listing.specs.declared.Columns.{Columns}
 use Rattle.listing.specs.Listing.{recordText}
 use Rattle.listing.specs.Steps.{columnsLine}

@@ -42,17 +42,30 @@ listing input =
     ++ cond (ltb longestInput (length input)) (refusedLine 24) (recordTexts (walk input .records) ++ lastText (walk input .last))
 
 -- 21: "text buffer holds fewer bytes than the text"
-abbrev pub textRefusal : List ℕ → List ℕ → ℕ
+unfoldable pub textRefusal : List ℕ → List ℕ → ℕ
 textRefusal out text = first (21 when ltb (length out) (length text) ∷ [])
 
--- for the line of a record: 1 to 11, then 21
-unfoldable pub lineRefusal : List ℕ → List ℕ → ℕ
-lineRefusal b out = recordRefusal b then textRefusal out (recordText b)
-
 -- the answer of a call that writes a text: the text's length, or the refusal n
-abbrev pub textAnswer : ℕ → List ℕ → Answer ℕ
+unfoldable pub textAnswer : ℕ → List ℕ → Answer ℕ
 textAnswer n text = unless n 0 (length text)
 
 -- the buffer after it: the text, then what the buffer held past it; a refusal changes nothing
-abbrev pub bufferAfter : ℕ → List ℕ → List ℕ → List ℕ
+unfoldable pub bufferAfter : ℕ → List ℕ → List ℕ → List ℕ
 bufferAfter n out text = cond (eqb n 0) (text ++ drop (length text) out) out
+
+-- the line of a record: 1 to 11, then 21
+unfoldable pub lineRefusal : List ℕ → List ℕ → ℕ
+lineRefusal b out = recordRefusal b then textRefusal out (recordText b)
+
+abbrev pub lineAnswer : List ℕ → List ℕ → Answer ℕ
+lineAnswer b out = textAnswer (lineRefusal b out) (recordText b)
+
+abbrev pub lineAfter : List ℕ → List ℕ → List ℕ
+lineAfter b out = bufferAfter (lineRefusal b out) out (recordText b)
+
+-- the whole listing: 21 alone, since any other refusal is a line of it
+abbrev pub listAnswer : List ℕ → List ℕ → Answer ℕ
+listAnswer input out = textAnswer (textRefusal out (listing input)) (listing input)
+
+abbrev pub listAfter : List ℕ → List ℕ → List ℕ
+listAfter input out = bufferAfter (textRefusal out (listing input)) out (listing input)

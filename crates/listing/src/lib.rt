@@ -7,7 +7,7 @@ ghost use Rattle.text.specs.Writing.{Room, Written};
 ghost use Rattle.record.specs.FrequencyRate.{rateAnswer};
 ghost use Rattle.reel.specs.Reel.{stepAt};
 ghost use Rattle.times.specs.SampleTime.{timeAnswer};
-ghost use Rattle.listing.specs.Listing.{recordText, listing, textRefusal, lineRefusal, textAnswer, bufferAfter};
+ghost use Rattle.listing.specs.Listing.{recordText, lineAnswer, lineAfter, listAnswer, listAfter};
 ghost use Rattle.listing.specs.Steps.{columnsLine, lineOf, linesFrom, placeFrom, mostSteps, stepsFor, refusalOf, endRefusal, endLine};
 ghost use Rattle.listing.specs.Shown.{shownList};
 use record::RateAnswer;
@@ -71,13 +71,13 @@ fn read_columns(bytes: &[u8]) -> Columns
 fn text_length(bytes: &[u8]) -> usize
     ensures { λ r. ⌜ r ≡ length (recordText (now (bytes .entry))) ⌝ }
 {
-    let c = read_columns(bytes);
+    let columns = read_columns(bytes);
     text::record_line_length(
-        c.number,
-        c.first_us,
-        c.origin,
-        c.frequency_uhz,
-        c.rate_units,
+        columns.number,
+        columns.first_us,
+        columns.origin,
+        columns.frequency_uhz,
+        columns.rate_units,
     )
 }
 
@@ -85,23 +85,23 @@ fn write_text(out: &mut [u8], at: usize, bytes: &[u8]) -> usize
     requires { ⌜ Room (now out) at (recordText (now bytes)) ⌝ }
     ensures { λ r. ⌜ Written (now (out .entry)) at (recordText (now (bytes .entry))) r (now (out .exit)) ⌝ }
 {
-    let c = read_columns(bytes);
+    let columns = read_columns(bytes);
     let put = text::put_record_line(
         out,
         at,
-        c.number,
-        c.first_us,
-        c.origin,
-        c.frequency_uhz,
-        c.rate_units,
+        columns.number,
+        columns.first_us,
+        columns.origin,
+        columns.frequency_uhz,
+        columns.rate_units,
     );
     text::next_of(put)
 }
 
 // The line of one record, from the start of the buffer.
 pub fn record_line(bytes: &[u8], out: &mut [u8]) -> ListAnswer
-    ensures { λ r. ⌜ shownList r ≡ textAnswer (lineRefusal (now (bytes .entry)) (now (out .entry))) (recordText (now (bytes .entry))) ⌝ }
-    ensures { λ _. ⌜ now (out .exit) ≡ bufferAfter (lineRefusal (now (bytes .entry)) (now (out .entry))) (now (out .entry)) (recordText (now (bytes .entry))) ⌝ }
+    ensures { λ r. ⌜ shownList r ≡ lineAnswer (now (bytes .entry)) (now (out .entry)) ⌝ }
+    ensures { λ _. ⌜ now (out .exit) ≡ lineAfter (now (bytes .entry)) (now (out .entry)) ⌝ }
 {
     let refusal = record::accept(bytes);
     if refusal != 0 {
@@ -224,8 +224,8 @@ fn write_end_line(out: &mut [u8], at: usize, refusal: u8) -> usize
 
 // The whole listing of the input, from the start of the buffer; 24 is a line of it.
 pub fn list_reel(input: &[u8], out: &mut [u8]) -> ListAnswer
-    ensures { λ r. ⌜ shownList r ≡ textAnswer (textRefusal (now (out .entry)) (listing (now (input .entry)))) (listing (now (input .entry))) ⌝ }
-    ensures { λ _. ⌜ now (out .exit) ≡ bufferAfter (textRefusal (now (out .entry)) (listing (now (input .entry)))) (now (out .entry)) (listing (now (input .entry))) ⌝ }
+    ensures { λ r. ⌜ shownList r ≡ listAnswer (now (input .entry)) (now (out .entry)) ⌝ }
+    ensures { λ _. ⌜ now (out .exit) ≡ listAfter (now (input .entry)) (now (out .entry)) ⌝ }
 {
     let steps = steps_for(input.len());
     let reached = count_lines(input, steps);

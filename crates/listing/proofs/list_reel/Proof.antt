@@ -16,8 +16,6 @@ use Rattle.listing.proofs.Listed.{listed, listed-length, steps-small}
 use Rattle.listing.proofs.Writing.{written-put}
 use Rattle.listing.proofs.list_reel.Statement.{statement}
 use Rattle.listing.proofs.list_reel.Tie as tie
-use Rattle.listing.proofs.list_reel.Reads as reads
-use Rattle.listing.proofs.list_reel.Lts as lts
 
 -- what is known once the refusal is
 module _ (c : tie.After-end-refusal) where

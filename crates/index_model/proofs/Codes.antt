@@ -1,0 +1,172 @@
+-- A channel's samples as the numbers in cells: sum of (sample + 128), sum of squares, 128 less the least, the greatest plus
+-- 129; and that the cells decode to the channel's total. Assumes nothing.
+use Prim.Native.Nat.{ℕ, suc, _+_, _-_, _*_, _%_, _<_, _≤_, max}
+use mathlib.Core.Path.{_≡_, refl, ap, sym, _∙_}
+use mathlib.Core.List.{List, [], _∷_, _++_, foldl}
+use mathlib.Core.Logic.{⊎-elim}
+use native.Mathlib.Nat.{lt-irrefl}
+use native.Mathlib.Omega.{arith}
+use lib.IntN.{ℤ, pos, negsuc, subℕ, _+ℤ_, _-ℤ_}
+use lib.ListN.{length}
+use mir.Syntax.{w8}
+use mir.Val.{SFits}
+use Rattle.lists.proofs.Order.{le-or-lt}
+use Rattle.channels.specs.Sample.{signedOf}
+use Rattle.channels.proofs.Sign.{signed-low, signed-high}
+use Rattle.totals.specs.Total.{sumOf, squaresOf, lesser, greater, keptOf, leastOf, greatestOf, totalOf}
+use Rattle.totals.proofs.Samples.{Bytes}
+use Rattle.index_model.specs.Cells.{natOf, channelCells}
+use Rattle.index_model.specs.Calls.{leastFrom, greatestFrom}
+use Rattle.index_model.proofs.Differences.{sub-pos, sub-neg, sub-same, sub-add, nat-plus, nat-minus, lesser-max, greater-max}
+
+-- a sample plus 128, from 0 to 255
+unfoldable pub offset : ℤ → ℕ
+offset (pos n) = 128 + n
+offset (negsuc n) = 127 - n
+
+pub offset-small : (x : ℤ) → SFits w8 x → offset x < 256
+unfolding offset
+offset-small (pos n) h = omega (arith, h .sfits)
+offset-small (negsuc n) h = omega (arith, h .sfits)
+
+pub offset-back : (x : ℤ) → SFits w8 x → x ≡ subℕ (offset x) 128
+unfolding offset
+offset-back (pos n) h = sym (sub-pos (128 + n) 128 n (omega arith))
+offset-back (negsuc n) h = sym (sub-neg (127 - n) 128 n (omega (arith, h .sfits)))
+
+-- ## sums
+
+unfoldable pub sumCode : List ℤ → ℕ
+sumCode [] = 0
+sumCode (x ∷ l) = offset x + sumCode l
+
+pub sum-code-append : (l m : List ℤ) → sumCode (l ++ m) ≡ sumCode l + sumCode m
+unfolding sumCode
+sum-code-append [] m = omega arith
+sum-code-append (x ∷ l) m = omega (arith, sum-code-append l m)
+
+pub sum-code-small : (l : List ℤ) → Bytes l → sumCode l ≤ 255 * length l
+unfolding sumCode
+sum-code-small [] h = omega arith
+sum-code-small (x ∷ l) h = omega (arith, offset-small x (h .0), sum-code-small l (h .1))
+
+pub sum-decoded : (l : List ℤ) → Bytes l → sumOf l ≡ subℕ (sumCode l) (128 * length l)
+unfolding sumOf sumCode
+sum-decoded [] h = refl
+sum-decoded (x ∷ l) h =
+    (λ t. offset-back x (h .0) t +ℤ sum-decoded l (h .1) t)
+    ∙ sub-add (offset x) 128 (sumCode l) (128 * length l)
+    ∙ sub-same (offset x + sumCode l) (128 + 128 * length l) (offset x + sumCode l) (128 * suc (length l)) (omega arith)
+
+-- ## least and greatest
+
+-- codes of samples, 1 to 256, of which the greatest is kept; values of codes; and the rule that keeps one of two samples
+pub record Coding (rule : ℤ → ℤ → ℤ) (code : ℤ → ℕ) (value : ℕ → ℤ) : Type 0 where
+  pub kept : (a b : ℕ) → rule (value a) (value b) ≡ value (max a b)
+  pub back : (x : ℤ) → SFits w8 x → x ≡ value (code x)
+  pub some : (x : ℤ) → SFits w8 x → 1 ≤ code x
+  pub most : (x : ℤ) → SFits w8 x → code x ≤ 256
+
+-- the greatest code of a list
+unfoldable pub topCode : (ℤ → ℕ) → List ℤ → ℕ
+topCode code [] = 0
+topCode code (x ∷ l) = max (code x) (topCode code l)
+
+pub top-append : (code : ℤ → ℕ) (l m : List ℤ) → topCode code (l ++ m) ≡ max (topCode code l) (topCode code m)
+unfolding topCode
+top-append code [] m = omega arith
+top-append code (x ∷ l) m = omega (arith, top-append code l m)
+
+module _ {rule : ℤ → ℤ → ℤ} {code : ℤ → ℕ} {value : ℕ → ℤ} (c : Coding rule code value) where
+  fold-decoded : (a : ℕ) (l : List ℤ) → Bytes l → foldl rule (value a) l ≡ value (max a (topCode code l))
+  unfolding topCode
+  fold-decoded a [] h = ap value (let z : a ≡ max a 0 = omega arith in z)
+  fold-decoded a (x ∷ l) h =
+      (λ t. foldl rule (rule (value a) (c .back x (h .0) t)) l)
+      ∙ (λ t. foldl rule (c .kept a (code x) t) l)
+      ∙ fold-decoded (max a (code x)) l (h .1)
+      ∙ ap value (let z : max (max a (code x)) (topCode code l) ≡ max a (max (code x) (topCode code l)) = omega arith in z)
+
+  pub kept-decoded : (l : List ℤ) → Bytes l → 0 < length l → keptOf rule l ≡ value (topCode code l)
+  unfolding keptOf topCode
+  kept-decoded [] h p = absurd (lt-irrefl 0 p)
+  kept-decoded (x ∷ l) h p = (λ t. foldl rule (c .back x (h .0) t) l) ∙ fold-decoded (code x) l (h .1)
+
+  pub top-most : (l : List ℤ) → Bytes l → topCode code l ≤ 256
+  unfolding topCode
+  top-most [] h = omega arith
+  top-most (x ∷ l) h = omega (arith, c .most x (h .0), top-most l (h .1))
+
+  pub top-some : (l : List ℤ) → Bytes l → 0 < length l → 1 ≤ topCode code l
+  unfolding topCode
+  top-some [] h p = absurd (lt-irrefl 0 p)
+  top-some (x ∷ l) h p = omega (arith, c .some x (h .0))
+
+abbrev pub leastCode : ℤ → ℕ
+leastCode x = 256 - offset x
+
+abbrev pub greatestCode : ℤ → ℕ
+greatestCode x = offset x + 1
+
+pub least-coding : Coding lesser leastCode (λ (a : ℕ). subℕ 128 a)
+least-coding =
+    record {
+      kept = λ a b. lesser-max a b 128;
+      back = λ x h. offset-back x h ∙ sub-same (offset x) 128 128 (256 - offset x) (omega (arith, offset-small x h));
+      some = λ x h. omega (arith, offset-small x h);
+      most = λ x h. omega arith;
+    }
+
+pub greatest-coding : Coding greater greatestCode (λ (a : ℕ). subℕ a 129)
+greatest-coding =
+    record {
+      kept = λ a b. greater-max a b 129;
+      back = λ x h. offset-back x h ∙ sub-same (offset x) 128 (offset x + 1) 129 (omega arith);
+      some = λ x h. omega arith;
+      most = λ x h. omega (arith, offset-small x h);
+    }
+
+-- ## the four cells of a channel are the codes of its samples
+
+abbrev pub codes : List ℤ → List ℕ
+codes l = sumCode l ∷ squaresOf l ∷ topCode leastCode l ∷ topCode greatestCode l ∷ []
+
+pub cells-codes : (l : List ℤ) → Bytes l → (n : ℕ) → length l ≡ n → 0 < n → channelCells n (totalOf l) ≡ codes l
+unfolding totalOf
+cells-codes l bytes n e p = λ t. sum-cell t ∷ squaresOf l ∷ least-cell t ∷ greatest-cell t ∷ []
+  where
+    sum-cell : natOf (sumOf l +ℤ pos (128 * n)) ≡ sumCode l
+    sum-cell =
+        (λ t. natOf (sum-decoded l bytes t +ℤ pos (128 * n)))
+        ∙ (λ t. natOf (subℕ (sumCode l) (128 * e t) +ℤ pos (128 * n)))
+        ∙ nat-plus (sumCode l) (128 * n)
+
+    least-cell : natOf (pos 128 -ℤ leastOf l) ≡ topCode leastCode l
+    least-cell =
+        (λ t. natOf (pos 128 -ℤ kept-decoded least-coding l bytes (omega (arith, e)) t)) ∙ nat-minus (topCode leastCode l) 128
+
+    greatest-cell : natOf (greatestOf l +ℤ pos 129) ≡ topCode greatestCode l
+    greatest-cell =
+        (λ t. natOf (kept-decoded greatest-coding l bytes (omega (arith, e)) t +ℤ pos 129)) ∙ nat-plus (topCode greatestCode l) 129
+
+-- ## codes from 1 to 256 as signed bytes
+
+pub least-from : (a : ℕ) → 1 ≤ a → a ≤ 256 → leastFrom a ≡ subℕ 128 a
+least-from a p q =
+    ⊎-elim
+    (λ h. ap signedOf (let z : (384 - a % 256) % 256 ≡ 128 - a = omega arith in z) ∙ signed-low (128 - a) (omega arith) ∙ sym (sub-pos 128 a (128 - a) (omega arith)))
+    (λ h. ap signedOf (let z : (384 - a % 256) % 256 ≡ 384 - a = omega arith in z) ∙ signed-high (384 - a) (omega arith) ∙ ap negsuc (let z : 255 - (384 - a) ≡ a - 129 = omega arith in z) ∙ sym (sub-neg 128 a (a - 129) (omega arith)))
+    (le-or-lt a 128)
+
+pub greatest-from : (a : ℕ) → 1 ≤ a → a ≤ 256 → greatestFrom a ≡ subℕ a 129
+greatest-from a p q =
+    ⊎-elim
+    (λ h. ap signedOf (let z : (a + 127) % 256 ≡ a - 129 = omega arith in z) ∙ signed-low (a - 129) (omega arith) ∙ sym (sub-pos a 129 (a - 129) (omega arith)))
+    (λ h. ap signedOf (let z : (a + 127) % 256 ≡ a + 127 = omega arith in z) ∙ signed-high (a + 127) (omega arith) ∙ ap negsuc (let z : 255 - (a + 127) ≡ 128 - a = omega arith in z) ∙ sym (sub-neg a 129 (128 - a) (omega arith)))
+    (le-or-lt 129 a)
+
+-- so the sample kept is read back from its code
+pub kept-read : {rule : ℤ → ℤ → ℤ} {code : ℤ → ℕ} {value : ℕ → ℤ} → Coding rule code value → (from : ℕ → ℤ) → ((a : ℕ) → 1 ≤ a → a ≤ 256 → from a ≡ value a)
+    → (l : List ℤ) → Bytes l → 0 < length l → (x : ℕ) → x ≡ topCode code l → from x ≡ keptOf rule l
+kept-read {code = code} c from reads l signed some x e =
+    ap from e ∙ reads (topCode code l) (top-some c l signed some) (top-most c l signed) ∙ sym (kept-decoded c l signed some)

@@ -1,0 +1,51 @@
+-- Demand 3, whole. Take any accepted opening, whatever its buffers held before, and any list of calls: puts, re-reads that
+-- replace a record, take-outs, questions and tests, refused ones included. Each call gets what opening returned and the cells
+-- as opening or the call before it left them. The ledger is told by the calls alone. Assumes nothing.
+use Prim.Native.Nat.{ℕ}
+use mathlib.Core.Path.{_≡_, sym, subst}
+use mathlib.Core.Bool.{true}
+use mathlib.Core.List.{List}
+use Rattle.index_model.specs.declared.Opening.{Opening}
+use Rattle.index_model.specs.Cells.{blockAt}
+use Rattle.index_model.specs.Opening.{inWindow, placeOf, openingOf, openRefusal, openAnswer, openRows, openSeconds}
+use Rattle.index_model.specs.Calls.{secondShown, isConsistent}
+use Rattle.index_model.specs.Ledger.{noRecords, ledgerSecond, Call}
+use Rattle.index_model.specs.History.{Cells, after, replies, ledgerAfter, ledgerReplies, EachAlters}
+use Rattle.index_model.proofs.Judging.{shown-is, consistent}
+use Rattle.index_model.proofs.Steps.{after-agrees, all-answered, each-alters}
+use Rattle.index_model.proofs.Opened.{regular-empty, fine, returned, opened-agrees}
+
+-- what is claimed of the value o that opening returned, the cells c that it left, and the calls
+pub record Demand3 (o : Opening) (c : Cells) (calls : List Call) : Type 0 where
+  -- every call answers as the ledger does: the same refusal number or none, the same totals and verdict, yes from the test
+  pub answers : replies o calls c ≡ ledgerReplies o calls noRecords
+  -- after the list, the totals and verdict that the cells of each second of the window say are those worked out from nothing
+  -- over the records then held
+  pub seconds : (s : ℕ) → inWindow o s ≡ true → secondShown o (blockAt (after o calls c .seconds) (placeOf o s)) ≡ ledgerSecond o (ledgerAfter o calls noRecords) s
+  -- and a test would say yes
+  pub consistent : isConsistent o (after o calls c .rows) (after o calls c .seconds) ≡ true
+  -- every accepted put or take-out altered only its record's row and the seconds it left and joined; every other call, nothing
+  pub alterations : EachAlters o calls noRecords c
+
+module _ (pattern : List ℕ) (F C R : ℕ) (rows seconds : List ℕ) (accepted : openRefusal pattern F C R rows seconds ≡ 0) (calls : List Call) where
+  abbrev start : Cells
+  start = record { rows = openRows pattern F C R rows seconds; seconds = openSeconds pattern F C R rows seconds }
+
+  pub demand3 : Demand3 (openAnswer pattern F C R rows seconds .value) start calls
+  demand3 = subst (λ (o : Opening). Demand3 o start calls) (sym (returned pattern F C R rows seconds accepted)) proved
+    where
+      o : Opening
+      o = openingOf pattern F C R
+
+      proved : Demand3 o start calls
+      proved =
+          let fits = fine pattern F C R rows seconds accepted in
+          let empty = regular-empty o in
+          let agree = opened-agrees pattern F C R rows seconds accepted in
+          let end = after-agrees o fits calls noRecords start empty agree in
+          record {
+            answers = all-answered o fits calls noRecords start empty agree;
+            seconds = shown-is o fits (ledgerAfter o calls noRecords) (after o calls start) (end .0) (end .1);
+            consistent = consistent o fits (ledgerAfter o calls noRecords) (after o calls start) (end .0) (end .1);
+            alterations = each-alters o fits calls noRecords start empty agree;
+          }

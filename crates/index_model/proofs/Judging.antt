@@ -1,0 +1,210 @@
+-- Where the cells agree with the ledger, each call is refused as the ledger refuses it, and what is accepted may be done; a
+-- question and the test answer as the ledger. Assumes nothing.
+use Prim.Native.Nat.{ℕ, zero, suc, _+_, _-_, _<_, _≤_}
+use mathlib.Core.Path.{_≡_, refl, ap, sym, _∙_}
+use mathlib.Core.Bool.{Bool, true, false, cond, not, _&&_, _||_}
+use mathlib.Core.List.{List, [], _∷_}
+use mathlib.Core.Option.{Option, none, some}
+use mathlib.Core.Logic.{⊎-elim}
+use native.Mathlib.Omega.{arith}
+use lib.Dec.{eqb, leb}
+use lib.ListN.{getD, length}
+use borrow.Author.Tests.{le-leb, lt-leb, leb-false, not-false, eq-eqb}
+use Rattle.lists.proofs.Order.{le-or-lt}
+use Rattle.header.specs.Header.{headerOf}
+use Rattle.record.specs.Answer.{accepted, unless}
+use Rattle.record.specs.Record.{recordRefusal}
+use Rattle.record.specs.Refusal.{Check, _when_, first, _then_}
+use Rattle.record.proofs.Refusals.{then-none, then-zero, none-applies}
+use Rattle.index_model.specs.declared.Opening.{Opening}
+use Rattle.index_model.specs.Records.{numberOf, secondOf}
+use Rattle.index_model.specs.Second.{noSecond}
+use Rattle.index_model.specs.Cells.{width, cell, blockAt, flag, rowWithin, cellFrom}
+use Rattle.index_model.specs.Opening.{limitsWrong, heldWrong, openingRefusal, otherReel, isOutside, inWindow, placeOf}
+use Rattle.index_model.specs.Calls.{fullCount, isFull, putRefusal, takeRefusal, askRefusal, askAnswer, secondShown, rowsInside, cellsRight, secondsRight, isConsistent, testAnswer}
+use Rattle.index_model.specs.Ledger.{Ledger, withEntry, isHeld, recordsOf, perSecond, ledgerFull, ledgerPut, ledgerTake, ledgerAsk, ledgerSecond}
+use Rattle.index_model.specs.History.{Cells}
+use Rattle.index_model.proofs.Blocks.{block-cells}
+use Rattle.index_model.proofs.Rows.{rowFor, row-records, row-second}
+use Rattle.index_model.proofs.Totals.{share, cellTotal, share-count, passed}
+use Rattle.index_model.proofs.Sound.{Sound}
+use Rattle.index_model.proofs.Measures.{measured, measures-records}
+use Rattle.index_model.proofs.Decoded.{second-decoded}
+use Rattle.index_model.proofs.Limits.{in-window, in-range, same-rate, opening-fine}
+use Rattle.index_model.proofs.Agreement.{Regular, Agree, few-fit, count-own, regular-without, old-row, old-within}
+
+leb-same : (a b c d : ℕ) → (a ≤ b → c ≤ d) → (b < a → d < c) → leb a b ≡ leb c d
+leb-same a b c d f g = ⊎-elim (λ p. le-leb a b p ∙ sym (le-leb c d (f p))) (λ p. lt-leb a b p ∙ sym (lt-leb c d (g p))) (le-or-lt a b)
+
+-- ## by the ledger alone
+
+module _ (o : Opening) (L : Ledger) where
+  -- what an accepted put gives
+  pub record Entering (b : List ℕ) : Type 0 where
+    pub sound : Sound o b
+    pub above : 0 < numberOf b
+    pub below : numberOf b ≤ o .«highest_number»
+    pub room : length (recordsOf (withEntry L (numberOf b) none) (secondOf b) (o .«highest_number»)) < perSecond o
+
+  pub put-accepted : (b : List ℕ) → ledgerPut o L b ≡ 0 → Entering b
+  unfolding ledgerPut ledgerFull
+  put-accepted b e =
+      record {
+        sound =
+            record {
+              accepted = both .0;
+              rate = same-rate o (headerOf b) (at 0);
+              window = not-false (inWindow o (secondOf b)) (at 2);
+            };
+        above = in-range o (numberOf b) (at 1) .0;
+        below = in-range o (numberOf b) (at 1) .1;
+        room = leb-false _ _ (at 3);
+      }
+    where
+      checks : List Check
+      checks =
+          15 when otherReel o (headerOf b)
+          ∷ 16 when isOutside o (numberOf b)
+          ∷ 17 when not (inWindow o (secondOf b))
+          ∷ 18 when ledgerFull o L (numberOf b) (secondOf b)
+          ∷ []
+
+      both : (recordRefusal b ≡ 0) × (first checks ≡ 0)
+      both = then-zero (recordRefusal b) (first checks) e
+
+      at : (k : ℕ) → getD checks k (0 when false) .applies ≡ false
+      at k = none-applies checks k tt (both .1)
+
+  pub take-accepted : (n : ℕ) → ledgerTake o L n ≡ 0 → (0 < n) × (n ≤ o .«highest_number»)
+  unfolding ledgerTake
+  take-accepted n e = in-range o n (none-applies (16 when isOutside o n ∷ 19 when not (isHeld (L n)) ∷ []) 0 tt e)
+
+-- ## by the cells
+
+module _ (o : Opening) (fine : limitsWrong o || heldWrong o ≡ false) (L : Ledger) (c : Cells) (regular : Regular o L) (agree : Agree o L c) where
+  abbrev F : ℕ
+  F = o .«first_second»
+
+  abbrev C : ℕ
+  C = o .«second_count»
+
+  abbrev R : ℕ
+  R = o .«highest_number»
+
+  pub opening-accepted : openingRefusal o (length (c .rows)) (length (c .seconds)) ≡ 0
+  opening-accepted = opening-fine o (length (c .rows)) (length (c .seconds)) fine (agree .rows-long) (agree .seconds-long)
+
+  -- the records of other numbers in a second
+  pub others-count : (n s : ℕ) → 0 < n → n ≤ R → length (recordsOf (withEntry L n none) s R) ≡ cellTotal (withEntry L n none) s 0 R
+  others-count n s p q = sym (measured (measures-records o) (withEntry L n none) (regular-without o L regular n p q .sound) s R)
+
+  full-is : (n s : ℕ) → isOutside o n ≡ false → not (inWindow o s) ≡ false → isFull o n s (c .rows) (c .seconds) ≡ ledgerFull o L n s
+  unfolding isFull ledgerFull
+  full-is n s e e' =
+      (λ t. leb (fullCount o + own t) (count t))
+      ∙ leb-same (fullCount o + share s 0 (L n)) (cellTotal L s 0 R) (perSecond o) (length (recordsOf (withEntry L n none) s R))
+      (λ h. omega (arith, count-own o L regular n (range .0) (range .1) s, others-count n s (range .0) (range .1)))
+      (λ h. omega (arith, count-own o L regular n (range .0) (range .1) s, others-count n s (range .0) (range .1)))
+    where
+      range : (0 < n) × (n ≤ R)
+      range = in-range o n e
+
+      w : (F ≤ s) × (s < F + C)
+      w = in-window o s (not-false (inWindow o s) e')
+
+      count : cell (c .seconds) (placeOf o s) 0 ≡ cellTotal L s 0 R
+      count =
+          agree .seconds-are (placeOf o s) (omega (arith, w .0, w .1)) 0 (omega arith)
+          ∙ (λ t. cellTotal L ((let z : F + (s - F) ≡ s = omega (arith, w .0) in z) t) 0 R)
+
+      own : flag (rowWithin (c .rows) (n - 1) s) ≡ share s 0 (L n)
+      own = (λ t. flag (old-within o L c agree n (range .0) (range .1) s t)) ∙ sym (share-count s (L n))
+
+  pub put-judged : (b : List ℕ) → putRefusal o b (c .rows) (c .seconds) ≡ ledgerPut o L b
+  unfolding putRefusal ledgerPut
+  put-judged b =
+      ap (λ (x : ℕ). recordRefusal b then x)
+      (then-none _ _ opening-accepted
+      ∙ ap (λ (x : ℕ). cond (otherReel o (headerOf b)) 15 x)
+      (by-tests (isOutside o (numberOf b)) refl (not (inWindow o (secondOf b))) refl))
+    where
+      by-tests : (t : Bool) → isOutside o (numberOf b) ≡ t → (u : Bool) → not (inWindow o (secondOf b)) ≡ u
+          → first (16 when t ∷ 17 when u ∷ 18 when isFull o (numberOf b) (secondOf b) (c .rows) (c .seconds) ∷ [])
+          ≡ first (16 when t ∷ 17 when u ∷ 18 when ledgerFull o L (numberOf b) (secondOf b) ∷ [])
+      by-tests true et u eu = refl
+      by-tests false et true eu = refl
+      by-tests false et false eu = λ i. cond (full-is (numberOf b) (secondOf b) et eu i) 18 0
+
+  pub take-judged : (n : ℕ) → takeRefusal o n (c .rows) (c .seconds) ≡ ledgerTake o L n
+  unfolding takeRefusal ledgerTake
+  take-judged n = then-none _ _ opening-accepted ∙ by-test (isOutside o n) refl
+    where
+      by-entry : (held : Option (List ℕ)) → eqb (getD (rowFor held) 0 0) 0 ≡ not (isHeld held)
+      by-entry none = refl
+      by-entry (some b) = λ t. eqb (row-records b t) 0
+
+      by-test : (t : Bool) → isOutside o n ≡ t → first (16 when t ∷ 19 when eqb (cell (c .rows) (n - 1) 0) 0 ∷ []) ≡ first (16 when t ∷ 19 when not (isHeld (L n)) ∷ [])
+      by-test true et = refl
+      by-test false et =
+          let range = in-range o n et in
+          λ i. cond (((λ t. eqb (old-row o L c agree n (range .0) (range .1) 0 (omega arith) t) 0) ∙ by-entry (L n)) i) 19 0
+
+  -- ## a question
+
+  -- what the cells of a second of the window say
+  pub shown-is : (s : ℕ) → inWindow o s ≡ true → secondShown o (blockAt (c .seconds) (placeOf o s)) ≡ ledgerSecond o L s
+  shown-is s e =
+      ap (secondShown o)
+      (block-cells (c .seconds) (placeOf o s) (omega (arith, w .0, w .1, agree .seconds-long)) (λ (j : ℕ). cellTotal L s j R)
+      (λ j h. agree .seconds-are (placeOf o s) (omega (arith, w .0, w .1)) j h ∙ (λ t. cellTotal L (z t) j R)))
+      ∙ second-decoded o L (regular .sound) s
+    where
+      w : (F ≤ s) × (s < F + C)
+      w = in-window o s e
+
+      z : F + (s - F) ≡ s
+      z = omega (arith, w .0)
+
+  pub ask-answered : (s : ℕ) → askAnswer o s (c .rows) (c .seconds) ≡ ledgerAsk o L s
+  unfolding askAnswer askRefusal ledgerAsk
+  ask-answered s =
+      ap (λ (x : ℕ). unless x noSecond (secondShown o (blockAt (c .seconds) (placeOf o s)))) (then-none _ _ opening-accepted)
+      ∙ by-test (inWindow o s) refl
+    where
+      by-test : (t : Bool) → inWindow o s ≡ t → unless (first (17 when not t ∷ [])) noSecond (secondShown o (blockAt (c .seconds) (placeOf o s))) ≡ unless (first (17 when not t ∷ [])) noSecond (ledgerSecond o L s)
+      by-test true e = λ i. accepted (shown-is s e i)
+      by-test false e = refl
+
+  -- ## the test
+
+  rows-inside : (m : ℕ) → m ≤ R → rowsInside o (c .rows) m ≡ true
+  unfolding rowsInside
+  rows-inside zero q = refl
+  rows-inside (suc m) q =
+      (λ t. rows-inside m (omega arith) t && (eqb (agree .rows-are m (omega arith) 0 (omega arith) t) 0 || inWindow o (agree .rows-are m (omega arith) 3 (omega arith) t)))
+      ∙ by-entry (L (suc m)) (regular .sound (suc m))
+    where
+      by-entry : (held : Option (List ℕ)) → ((b : List ℕ) → held ≡ some b → Sound o b) → (eqb (getD (rowFor held) 0 0) 0 || inWindow o (getD (rowFor held) 3 0)) ≡ true
+      by-entry none h = refl
+      by-entry (some b) h = (λ t. eqb (row-records b t) 0 || inWindow o (row-second b t)) ∙ h b refl .window
+
+  cells-right : (k : ℕ) → k < C → (m : ℕ) → m ≤ width → cellsRight o (c .rows) (c .seconds) k m ≡ true
+  unfolding cellsRight
+  cells-right k hk zero q = refl
+  cells-right k hk (suc j) q =
+      (λ t. cells-right k hk j (omega arith) t && eqb (cell (c .seconds) k j) (cellFrom (c .rows) (F + k) j R))
+      ∙ eq-eqb (cell (c .seconds) k j) (cellFrom (c .rows) (F + k) j R)
+      (agree .seconds-are k hk j (omega arith) ∙ sym (passed R L (c .rows) (agree .rows-are) (F + k) j (omega arith) R (omega arith) (few-fit o L regular (F + k) j)))
+
+  seconds-right : (m : ℕ) → m ≤ C → secondsRight o (c .rows) (c .seconds) m ≡ true
+  unfolding secondsRight
+  seconds-right zero q = refl
+  seconds-right (suc k) q = λ t. seconds-right k (omega arith) t && cells-right k (omega arith) width (omega arith) t
+
+  pub consistent : isConsistent o (c .rows) (c .seconds) ≡ true
+  unfolding isConsistent
+  consistent = λ t. rows-inside R (omega arith) t && seconds-right C (omega arith) t
+
+  pub test-answered : testAnswer o (c .rows) (c .seconds) ≡ accepted true
+  unfolding testAnswer
+  test-answered = λ t. unless (opening-accepted t) false (consistent t)

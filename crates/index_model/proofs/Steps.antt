@@ -1,0 +1,121 @@
+-- One call: the cells agree with the ledger after it, it answers as the ledger, and it alters only what it may. Then any list
+-- of calls. Assumes nothing.
+use Prim.Native.Nat.{ℕ, suc, _+_, _/_}
+use mathlib.Core.Path.{_≡_, refl, ap, sym, _∙_, subst}
+use mathlib.Core.Bool.{Bool, true, false, cond, _&&_, _||_, true≢false}
+use mathlib.Core.List.{List, [], _∷_}
+use mathlib.Core.Option.{Option, none, some}
+use native.Mathlib.Omega.{arith}
+use lib.Dec.{eqb}
+use borrow.Author.Tests.{eqb-true}
+use Rattle.lists.proofs.Truth.{or-false}
+use Rattle.index_model.specs.declared.Opening.{Opening}
+use Rattle.index_model.specs.Records.{numberOf, secondOf}
+use Rattle.index_model.specs.Cells.{width}
+use Rattle.index_model.specs.Opening.{limitsWrong, heldWrong}
+use Rattle.index_model.specs.Calls.{putRows, putSeconds, takeRows, takeSeconds}
+use Rattle.index_model.specs.Ledger.{Ledger, withEntry, Call, put, take-out, ask, test, done, second, tested, ledgerPut, ledgerTake, ledgerStep, ledgerReply}
+use Rattle.index_model.specs.History.{Cells, step, reply, after, replies, ledgerAfter, ledgerReplies, isAccepted, callNumber, isOf, leaves, joins, altersRow, altersSecond, Alters, EachAlters}
+use Rattle.index_model.proofs.Agreement.{Regular, Agree}
+use Rattle.index_model.proofs.Changes.{putCells, takenCells, Changed, put-changed, taken-changed}
+use Rattle.index_model.proofs.Judging.{put-accepted, take-accepted, others-count, put-judged, take-judged, ask-answered, test-answered}
+
+-- a call that changes nothing alters only what it may
+same : (o : Opening) (L : Ledger) (call : Call) (c : Cells) → Alters o L call c c
+same o L call c =
+    record { rows-length = refl; seconds-length = refl; rows = λ m e. refl; seconds = λ m e. refl; nothing = λ e. refl }
+
+-- what one call gives
+pub record Stepped (o : Opening) (L : Ledger) (call : Call) (L' : Ledger) (c c' : Cells) : Type 0 where
+  pub regular : Regular o L'
+  pub agree : Agree o L' c'
+  pub alters : Alters o L call c c'
+
+-- of two tests of which the first holds, but not both, the second fails
+second-fails : (a b : Bool) → a ≡ true → a && b ≡ false → b ≡ false
+second-fails a b e h = (λ t. sym e t && b) ∙ h
+
+-- an accepted call, once its change is made
+changed-steps : (o : Opening) (L : Ledger) (call : Call) (entry : Option (List ℕ)) (c c' : Cells) → isAccepted o L call ≡ true → ((k : ℕ) → joins call k ≡ isOf k entry) → Changed o L (callNumber call) entry c c' → Stepped o L call (withEntry L (callNumber call) entry) c c'
+unfolding altersRow altersSecond
+changed-steps o L call entry c c' e joined changed =
+    record {
+      regular = changed .regular;
+      agree = changed .agree;
+      alters =
+          record {
+            rows-length = changed .rows-length;
+            seconds-length = changed .seconds-length;
+            rows = λ m h. changed .rows m (second-fails (isAccepted o L call) (eqb (suc (m / width)) (callNumber call)) e h);
+            seconds =
+                λ m h.
+                let k : ℕ = o .«first_second» + m / width in
+                let neither = or-false (leaves L call k) (joins call k) (second-fails (isAccepted o L call) (leaves L call k || joins call k) e h) in
+                changed .seconds m (neither .0) (sym (joined k) ∙ neither .1);
+            nothing = λ h. absurd (true≢false (sym e ∙ h));
+          };
+    }
+
+module _ (o : Opening) (fine : limitsWrong o || heldWrong o ≡ false) where
+  module _ (L : Ledger) (c : Cells) (regular : Regular o L) (agree : Agree o L c) where
+    put-done : (b : List ℕ) → eqb (ledgerPut o L b) 0 ≡ true → Stepped o L (put b) (withEntry L (numberOf b) (some b)) c (putCells o c (numberOf b) b)
+    unfolding isAccepted
+    put-done b e =
+        let enters = put-accepted o L b (eqb-true (ledgerPut o L b) 0 e) in
+        changed-steps o L (put b) (some b) c (putCells o c (numberOf b) b) e (λ k. refl)
+        (put-changed o L c regular agree (numberOf b) (enters .above) (enters .below) b (enters .sound)
+        (omega (arith, enters .room, others-count o fine L c regular agree (numberOf b) (secondOf b) (enters .above) (enters .below))))
+
+    take-done : (n : ℕ) → eqb (ledgerTake o L n) 0 ≡ true → Stepped o L (take-out n) (withEntry L n none) c (takenCells o c n)
+    unfolding isAccepted
+    take-done n e =
+        let range = take-accepted o L n (eqb-true (ledgerTake o L n) 0 e) in
+        changed-steps o L (take-out n) none c (takenCells o c n) e (λ k. refl)
+        (taken-changed o L c regular agree n (range .0) (range .1))
+
+    -- by the ledger's test: the change, or nothing
+    by-test : (call : Call) (L' : Ledger) (c' : Cells) (t : Bool) → (t ≡ true → Stepped o L call L' c c') → Stepped o L call (cond t L' L) c (record { rows = cond t (c' .rows) (c .rows); seconds = cond t (c' .seconds) (c .seconds) })
+    by-test call L' c' true h = h refl
+    by-test call L' c' false h = record { regular = regular; agree = agree; alters = same o L call c }
+
+    pub stepped : (call : Call) → Stepped o L call (ledgerStep o call L) c (step o call c)
+    unfolding ledgerStep step putRows putSeconds takeRows takeSeconds
+    stepped (put b) =
+        subst
+        (λ (x : ℕ). Stepped o L (put b) (ledgerStep o (put b) L) c (record { rows = cond (eqb x 0) (putCells o c (numberOf b) b .rows) (c .rows); seconds = cond (eqb x 0) (putCells o c (numberOf b) b .seconds) (c .seconds) }))
+        (sym (put-judged o fine L c regular agree b))
+        (by-test (put b) (withEntry L (numberOf b) (some b)) (putCells o c (numberOf b) b) (eqb (ledgerPut o L b) 0) (put-done b))
+    stepped (take-out n) =
+        subst
+        (λ (x : ℕ). Stepped o L (take-out n) (ledgerStep o (take-out n) L) c (record { rows = cond (eqb x 0) (takenCells o c n .rows) (c .rows); seconds = cond (eqb x 0) (takenCells o c n .seconds) (c .seconds) }))
+        (sym (take-judged o fine L c regular agree n))
+        (by-test (take-out n) (withEntry L n none) (takenCells o c n) (eqb (ledgerTake o L n) 0) (take-done n))
+    stepped (ask s) = record { regular = regular; agree = agree; alters = same o L (ask s) c }
+    stepped test = record { regular = regular; agree = agree; alters = same o L test c }
+
+    pub answered : (call : Call) → reply o call c ≡ ledgerReply o call L
+    unfolding reply ledgerReply
+    answered (put b) = ap done (put-judged o fine L c regular agree b)
+    answered (take-out n) = ap done (take-judged o fine L c regular agree n)
+    answered (ask s) = ap second (ask-answered o fine L c regular agree s)
+    answered test = ap tested (test-answered o fine L c regular agree)
+
+  -- ## any list of calls
+
+  pub after-agrees : (calls : List Call) (L : Ledger) (c : Cells) → Regular o L → Agree o L c → Regular o (ledgerAfter o calls L) × Agree o (ledgerAfter o calls L) (after o calls c)
+  after-agrees [] L c g a = (g, a)
+  after-agrees (call ∷ calls) L c g a =
+      let next = stepped L c g a call in
+      after-agrees calls (ledgerStep o call L) (step o call c) (next .regular) (next .agree)
+
+  pub all-answered : (calls : List Call) (L : Ledger) (c : Cells) → Regular o L → Agree o L c → replies o calls c ≡ ledgerReplies o calls L
+  all-answered [] L c g a = refl
+  all-answered (call ∷ calls) L c g a =
+      let next = stepped L c g a call in
+      λ t. answered L c g a call t ∷ all-answered calls (ledgerStep o call L) (step o call c) (next .regular) (next .agree) t
+
+  pub each-alters : (calls : List Call) (L : Ledger) (c : Cells) → Regular o L → Agree o L c → EachAlters o calls L c
+  each-alters [] L c g a = tt
+  each-alters (call ∷ calls) L c g a =
+      let next = stepped L c g a call in
+      (next .alters, each-alters calls (ledgerStep o call L) (step o call c) (next .regular) (next .agree))

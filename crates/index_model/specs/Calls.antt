@@ -1,0 +1,157 @@
+-- The calls after opening, on any cells whatever: what each answers, and the cells that it leaves. 01: "The book".
+-- A put or take-out that is refused leaves every cell as it was; a question and a test change none.
+use Prim.Native.Nat.{ℕ, zero, suc, _+_, _-_, _*_, _%_}
+use mathlib.Core.Bool.{Bool, true, false, cond, not, _&&_, _||_}
+use mathlib.Core.List.{List, [], _∷_}
+use lib.Dec.{eqb, leb}
+use lib.IntN.{ℤ, pos, _-ℤ_}
+use lib.ListN.{length, getD}
+use Rattle.lists.specs.Fill.{tab}
+use Rattle.channels.specs.Sample.{signedOf}
+use Rattle.header.specs.Header.{headerOf}
+use Rattle.rates.specs.Rates.{rateOf, recordsPerSecond, samplesPerRecord}
+use Rattle.record.specs.Answer.{Answer, unless}
+use Rattle.record.specs.Record.{recordRefusal}
+use Rattle.record.specs.Refusal.{_when_, first, _then_}
+use Rattle.totals.specs.declared.Total.{Total}
+use Rattle.totals.specs.Total.{noTotal}
+use Rattle.index_model.specs.declared.Opening.{Opening}
+use Rattle.index_model.specs.Records.{numberOf, secondOf}
+use Rattle.index_model.specs.Second.{SecondTotals, noSecond}
+use Rattle.index_model.specs.Cells.{width, cell, blockAt, withBlock, rowOf, noRow, flag, merged, rowWithin, cellFrom, secondFrom}
+use Rattle.index_model.specs.Opening.{openingRefusal, otherReel, isOutside, inWindow, placeOf}
+
+-- L: the records of a full second
+abbrev pub fullCount : Opening → ℕ
+fullCount o = recordsPerSecond (rateOf (o .«sample_rate_hz»))
+
+-- ## what a changed row does to the seconds
+
+-- the second that an old row was of, worked out anew from the rows; a row that was not held was of none
+unfoldable pub leave : Opening → List ℕ → ℕ → ℕ → List ℕ → List ℕ
+leave o rows held old seconds =
+    cond (not (eqb held 0) && inWindow o old)
+    (withBlock seconds (placeOf o old) (secondFrom rows old (o .«highest_number»)))
+    seconds
+
+-- a row added to the second at a place, unless that second was worked out anew with it
+unfoldable pub join : Bool → List ℕ → ℕ → List ℕ → List ℕ
+join anew seconds k row = cond anew seconds (withBlock seconds k (merged (blockAt seconds k) row))
+
+-- row i replaced by a row of second s: the second that the old row was of is left, and second s is joined
+unfoldable pub secondsPut : Opening → ℕ → ℕ → List ℕ → List ℕ → List ℕ → List ℕ
+secondsPut o i s row rows seconds =
+    join (rowWithin rows i s) (leave o (withBlock rows i row) (cell rows i 0) (cell rows i 3) seconds) (placeOf o s) row
+
+-- row i cleared: the second that the old row was of is left
+unfoldable pub secondsTaken : Opening → ℕ → List ℕ → List ℕ → List ℕ
+secondsTaken o i rows seconds = leave o (withBlock rows i noRow) (cell rows i 0) (cell rows i 3) seconds
+
+-- ## put
+
+-- second s has L records of other numbers: the row of number n itself does not count where it is of that second
+unfoldable pub isFull : Opening → ℕ → ℕ → List ℕ → List ℕ → Bool
+isFull o n s rows seconds = leb (fullCount o + flag (rowWithin rows (n - 1) s)) (cell seconds (placeOf o s) 0)
+
+module _ (o : Opening) (b : List ℕ) (rows seconds : List ℕ) where
+  unfoldable pub putRefusal : ℕ
+  putRefusal =
+      recordRefusal b
+      then openingRefusal o (length rows) (length seconds)
+      then first
+      (15 when otherReel o (headerOf b)
+      ∷ 16 when isOutside o (numberOf b)
+      ∷ 17 when not (inWindow o (secondOf b))
+      ∷ 18 when isFull o (numberOf b) (secondOf b) rows seconds
+      ∷ [])
+
+  unfoldable pub putRows : List ℕ
+  putRows = cond (eqb putRefusal 0) (withBlock rows (numberOf b - 1) (rowOf b)) rows
+
+  unfoldable pub putSeconds : List ℕ
+  putSeconds = cond (eqb putRefusal 0) (secondsPut o (numberOf b - 1) (secondOf b) (rowOf b) rows seconds) seconds
+
+-- ## take out
+
+module _ (o : Opening) (n : ℕ) (rows seconds : List ℕ) where
+  unfoldable pub takeRefusal : ℕ
+  takeRefusal =
+      openingRefusal o (length rows) (length seconds)
+      then first (16 when isOutside o n ∷ 19 when eqb (cell rows (n - 1) 0) 0 ∷ [])
+
+  unfoldable pub takeRows : List ℕ
+  takeRows = cond (eqb takeRefusal 0) (withBlock rows (n - 1) noRow) rows
+
+  unfoldable pub takeSeconds : List ℕ
+  takeSeconds = cond (eqb takeRefusal 0) (secondsTaken o (n - 1) rows seconds) seconds
+
+-- ## ask
+
+-- least and greatest from their cells: 128 - x and x - 129. A history leaves 1 to 256 there; any other cell counts modulo
+-- 256, so that a signed byte comes of it
+abbrev pub leastFrom : ℕ → ℤ
+leastFrom x = signedOf ((384 - x % 256) % 256)
+
+abbrev pub greatestFrom : ℕ → ℤ
+greatestFrom x = signedOf ((x + 127) % 256)
+
+-- the total of a channel (1 to 4) from the cells of a second that has n samples of it
+abbrev pub channelShown : ℕ → List ℕ → ℕ → Total
+channelShown n second channel =
+    record {
+      sum = pos (getD second (4 * channel) 0) -ℤ pos (128 * n);
+      squares = getD second (4 * channel + 1) 0;
+      least = leastFrom (getD second (4 * channel + 2) 0);
+      greatest = greatestFrom (getD second (4 * channel + 3) 0);
+    }
+
+-- a second of no records has 0 throughout
+unfoldable pub totalFrom : ℕ → List ℕ → ℕ → Total
+totalFrom n second channel = cond (eqb (getD second 0 0) 0) noTotal (channelShown n second channel)
+
+-- KEPT: L records, at least one with clock origin 1, none with copy error 1
+unfoldable pub keptFrom : ℕ → List ℕ → Bool
+keptFrom full second = eqb (getD second 0 0) full && leb 1 (getD second 1 0) && eqb (getD second 2 0) 0
+
+-- what the cells of a second say
+unfoldable pub secondShown : Opening → List ℕ → SecondTotals
+secondShown o second =
+    record {
+      records = getD second 0 0;
+      origins = getD second 1 0;
+      errors = getD second 2 0;
+      channels = tab (totalFrom (getD second 0 0 * samplesPerRecord (rateOf (o .«sample_rate_hz»))) second) 1 4;
+      kept = keptFrom (fullCount o) second;
+    }
+
+module _ (o : Opening) (s : ℕ) (rows seconds : List ℕ) where
+  unfoldable pub askRefusal : ℕ
+  askRefusal = openingRefusal o (length rows) (length seconds) then first (17 when not (inWindow o s) ∷ [])
+
+  unfoldable pub askAnswer : Answer SecondTotals
+  askAnswer = unless askRefusal noSecond (secondShown o (blockAt seconds (placeOf o s)))
+
+-- ## book test
+
+-- no held row among the first n has a second outside the window
+unfoldable pub rowsInside : Opening → List ℕ → ℕ → Bool
+rowsInside o rows zero = true
+rowsInside o rows (suc i) = rowsInside o rows i && (eqb (cell rows i 0) 0 || inWindow o (cell rows i 3))
+
+-- the first n cells of a second are those that the rows give
+unfoldable pub cellsRight : Opening → List ℕ → List ℕ → ℕ → ℕ → Bool
+cellsRight o rows seconds k zero = true
+cellsRight o rows seconds k (suc j) =
+    cellsRight o rows seconds k j && eqb (cell seconds k j) (cellFrom rows (o .«first_second» + k) j (o .«highest_number»))
+
+-- all cells of the first n seconds are those that the rows give
+unfoldable pub secondsRight : Opening → List ℕ → List ℕ → ℕ → Bool
+secondsRight o rows seconds zero = true
+secondsRight o rows seconds (suc k) = secondsRight o rows seconds k && cellsRight o rows seconds k width
+
+module _ (o : Opening) (rows seconds : List ℕ) where
+  unfoldable pub isConsistent : Bool
+  isConsistent = rowsInside o rows (o .«highest_number») && secondsRight o rows seconds (o .«second_count»)
+
+  unfoldable pub testAnswer : Answer Bool
+  testAnswer = unless (openingRefusal o (length rows) (length seconds)) false isConsistent

@@ -1,0 +1,102 @@
+-- Histories: an opening and a list of calls, run on the cells and on the ledger. 01: "A history is an opening and a list of
+-- calls"; "A call leaves the second of the record that goes or is replaced, and joins that of the record put".
+use Prim.Native.Nat.{ℕ, suc, _+_, _/_}
+use mathlib.Core.Path.{_≡_}
+use mathlib.Core.Bool.{Bool, false, _&&_, _||_}
+use mathlib.Core.List.{List, [], _∷_}
+use mathlib.Core.Option.{Option, none, some}
+use lib.Dec.{eqb}
+use lib.ListN.{length, getD}
+use Rattle.index_model.specs.declared.Opening.{Opening}
+use Rattle.index_model.specs.Records.{numberOf, secondOf}
+use Rattle.index_model.specs.Cells.{width}
+use Rattle.index_model.specs.Calls.{putRefusal, putRows, putSeconds, takeRefusal, takeRows, takeSeconds, askAnswer, testAnswer}
+use Rattle.index_model.specs.Ledger.{Ledger, Call, put, take-out, ask, test, Reply, done, second, tested, ledgerPut, ledgerTake, ledgerStep, ledgerReply}
+
+-- the two lent buffers
+pub record Cells : Type 0 where
+  pub rows : List ℕ
+  pub seconds : List ℕ
+
+-- the cells after a call, and its answer
+unfoldable pub step : Opening → Call → Cells → Cells
+step o (put b) c = record { rows = putRows o b (c .rows) (c .seconds); seconds = putSeconds o b (c .rows) (c .seconds) }
+step o (take-out n) c = record { rows = takeRows o n (c .rows) (c .seconds); seconds = takeSeconds o n (c .rows) (c .seconds) }
+step o (ask s) c = c
+step o test c = c
+
+unfoldable pub reply : Opening → Call → Cells → Reply
+reply o (put b) c = done (putRefusal o b (c .rows) (c .seconds))
+reply o (take-out n) c = done (takeRefusal o n (c .rows) (c .seconds))
+reply o (ask s) c = second (askAnswer o s (c .rows) (c .seconds))
+reply o test c = tested (testAnswer o (c .rows) (c .seconds))
+
+-- over a list of calls, each on what the call before it left
+abbrev pub after : Opening → List Call → Cells → Cells
+after o [] c = c
+after o (call ∷ calls) c = after o calls (step o call c)
+
+abbrev pub replies : Opening → List Call → Cells → List Reply
+replies o [] c = []
+replies o (call ∷ calls) c = reply o call c ∷ replies o calls (step o call c)
+
+abbrev pub ledgerAfter : Opening → List Call → Ledger → Ledger
+ledgerAfter o [] ledger = ledger
+ledgerAfter o (call ∷ calls) ledger = ledgerAfter o calls (ledgerStep o call ledger)
+
+abbrev pub ledgerReplies : Opening → List Call → Ledger → List Reply
+ledgerReplies o [] ledger = []
+ledgerReplies o (call ∷ calls) ledger = ledgerReply o call ledger ∷ ledgerReplies o calls (ledgerStep o call ledger)
+
+-- ## what a call may alter, by the ledger
+
+-- an accepted put or take-out
+unfoldable pub isAccepted : Opening → Ledger → Call → Bool
+isAccepted o ledger (put b) = eqb (ledgerPut o ledger b) 0
+isAccepted o ledger (take-out n) = eqb (ledgerTake o ledger n) 0
+isAccepted o ledger (ask s) = false
+isAccepted o ledger test = false
+
+abbrev pub callNumber : Call → ℕ
+callNumber (put b) = numberOf b
+callNumber (take-out n) = n
+callNumber (ask s) = 0
+callNumber test = 0
+
+-- a record, or none, is of second s
+abbrev pub isOf : ℕ → Option (List ℕ) → Bool
+isOf s none = false
+isOf s (some b) = eqb (secondOf b) s
+
+-- the record that goes or is replaced is of second s; the record put is of second s
+abbrev pub leaves : Ledger → Call → ℕ → Bool
+leaves ledger call s = isOf s (ledger (callNumber call))
+
+abbrev pub joins : Call → ℕ → Bool
+joins (put b) s = eqb (secondOf b) s
+joins (take-out n) s = false
+joins (ask s') s = false
+joins test s = false
+
+-- row i, from 0, is that of the record
+unfoldable pub altersRow : Opening → Ledger → Call → ℕ → Bool
+altersRow o ledger call i = isAccepted o ledger call && eqb (suc i) (callNumber call)
+
+-- second k of the window, from 0, is left or joined
+unfoldable pub altersSecond : Opening → Ledger → Call → ℕ → Bool
+altersSecond o ledger call k =
+    isAccepted o ledger call && (leaves ledger call (o .«first_second» + k) || joins call (o .«first_second» + k))
+
+-- cell by cell, and each buffer's length: no cell changes but those of that row and of those seconds, and nothing at all
+-- where the call is no accepted put or take-out
+pub record Alters (o : Opening) (ledger : Ledger) (call : Call) (old new : Cells) : Type 0 where
+  pub rows-length : length (new .rows) ≡ length (old .rows)
+  pub seconds-length : length (new .seconds) ≡ length (old .seconds)
+  pub rows : (m : ℕ) → altersRow o ledger call (m / width) ≡ false → getD (new .rows) m 0 ≡ getD (old .rows) m 0
+  pub seconds : (m : ℕ) → altersSecond o ledger call (m / width) ≡ false → getD (new .seconds) m 0 ≡ getD (old .seconds) m 0
+  pub nothing : isAccepted o ledger call ≡ false → new ≡ old
+
+-- every call of a list does so
+abbrev pub EachAlters : Opening → List Call → Ledger → Cells → Type 0
+EachAlters o [] ledger c = Unit
+EachAlters o (call ∷ calls) ledger c = Alters o ledger call c (step o call c) × EachAlters o calls (ledgerStep o call ledger) (step o call c)

@@ -1,0 +1,10 @@
+-- What reading promises: the bytes counted lie within the buffer.
+use mathlib.Core.List.{List}
+use Prim.Native.Nat.{ℕ}
+use Rattle.io.specs.Counts.{Counts}
+use Rattle.lister.specs.declared.Input.{Input}
+use Rattle.lister.specs.declared.Input.the-variants.{Bytes, Failed}
+
+abbrev pub Within : Input → List ℕ → Type 0
+Within (Bytes n) buffer = Counts n buffer
+Within Failed buffer = Unit
