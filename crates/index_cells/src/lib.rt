@@ -1,0 +1,142 @@
+// Cells of the index: a row or a second read and replaced, a row merged into a second, a second worked out from the rows.
+// 01: "The book". Every function here takes any cells.
+ghost use mathlib.Core.Path.{_≡_};
+ghost use mathlib.Core.Bool.{cond, not, _&&_};
+ghost use Prim.Native.Nat.{_+_, _*_, _/_, _≤_, min};
+ghost use lib.Dec.{eqb};
+ghost use lib.ListN.{length};
+ghost use Rattle.index_model.specs.Cells.{width, blockAt, withBlock, isGreatest, merge, merged, rowWithin, secondFrom};
+ghost use Rattle.index_cells.specs.Blocks.{blockOrNone, blockPut};
+
+// Cells in a row, and in a second.
+pub const WIDTH: usize = 20;
+
+// The cells of row (or second) i of a buffer.
+fn read_block(cells: &[u32], i: usize) -> [u32; 20]
+    requires { ⌜ width * i + width ≤ length (now cells) ⌝ }
+    ensures { λ r. ⌜ r ≡ blockAt (now (cells .entry)) i ⌝ }
+{
+    let mut block = [0u32; 20];
+    let start = WIDTH * i;
+    let mut j: usize = 0;
+    while j < WIDTH {
+        block[j] = cells[start + j];
+        j += 1;
+    }
+    block
+}
+
+// The cells of row (or second) i, counted from 0; zeros where the buffer does not hold them all.
+pub fn block(cells: &[u32], i: u64) -> [u32; 20]
+    ensures { λ r. ⌜ r ≡ blockOrNone (now (cells .entry)) i ⌝ }
+{
+    let place = i as usize;
+    if place < cells.len() / WIDTH {
+        return read_block(cells, place);
+    }
+    [0u32; 20]
+}
+
+fn copy_block(part: &mut [u32], block: [u32; 20])
+    requires { ⌜ length (now part) ≡ width ⌝ }
+    ensures { λ _. ⌜ now (part .exit) ≡ block ⌝ }
+{
+    let mut j: usize = 0;
+    while j < WIDTH {
+        part[j] = block[j];
+        j += 1;
+    }
+}
+
+// The cells of row (or second) i, replaced; nothing changes where the buffer does not hold them all.
+pub fn put_block(cells: &mut [u32], i: u64, block: [u32; 20])
+    ensures { λ _. ⌜ now (cells .exit) ≡ blockPut (now (cells .entry)) i block ⌝ }
+{
+    let place = i as usize;
+    if place < cells.len() / WIDTH {
+        let start = WIDTH * place;
+        let end = start + WIDTH;
+        copy_block(&mut cells[start..end], block);
+    }
+}
+
+// Whether cell j holds the greatest, not a sum.
+fn is_greatest(j: usize) -> bool
+    ensures { λ r. ⌜ r ≡ isGreatest j ⌝ }
+{
+    (j % 4 > 1) & (j != 2)
+}
+
+// Cell j of a second and of a row, merged.
+fn merge_cell(j: usize, a: u32, b: u32) -> u32
+    ensures { λ r. ⌜ r ≡ merge j a b ⌝ }
+{
+    if is_greatest(j) {
+        if a < b {
+            return b;
+        }
+        return a;
+    }
+    (((a as u64) + (b as u64)) % 4_294_967_296) as u32
+}
+
+// A second's cells with a row's added.
+pub fn merged_cells(second: [u32; 20], row: [u32; 20]) -> [u32; 20]
+    ensures { λ r. ⌜ r ≡ merged second row ⌝ }
+{
+    let mut cells = second;
+    let mut j: usize = 0;
+    while j < WIDTH {
+        cells[j] = merge_cell(j, cells[j], row[j]);
+        j += 1;
+    }
+    cells
+}
+
+fn wide(x: u32) -> u64
+    ensures { λ r. ⌜ r ≡ x ⌝ }
+{
+    x as u64
+}
+
+// Whether a row is held and of a second, by its cells 0 and 3.
+pub fn is_of(held: u32, own: u32, second: u64) -> bool
+    ensures { λ r. ⌜ r ≡ not (eqb held 0) && eqb own second ⌝ }
+{
+    (held != 0) & (wide(own) == second)
+}
+
+// The cells with those of row i added, where that is held and of the second.
+fn with_row(cells: [u32; 20], rows: &[u32], i: usize, second: u64) -> [u32; 20]
+    requires { ⌜ width * i + width ≤ length (now rows) ⌝ }
+    ensures { λ r. ⌜ r ≡ cond (rowWithin (now (rows .entry)) i second) (merged cells (blockAt (now (rows .entry)) i)) cells ⌝ }
+{
+    let at = WIDTH * i;
+    if is_of(rows[at], rows[at + 3], second) {
+        return merged_cells(cells, read_block(rows, i));
+    }
+    cells
+}
+
+// The cells of a second from the first `count` rows.
+fn from_rows(rows: &[u32], second: u64, count: usize) -> [u32; 20]
+    requires { ⌜ width * count ≤ length (now rows) ⌝ }
+    ensures { λ r. ⌜ r ≡ secondFrom (now (rows .entry)) second count ⌝ }
+{
+    let mut cells = [0u32; 20];
+    let mut i: usize = 0;
+    while i < count {
+        let next = with_row(cells, rows, i, second);
+        cells = next;
+        i += 1;
+    }
+    cells
+}
+
+// The cells of a second from the first `count` rows, or from all where the buffer holds fewer.
+pub fn second_cells(rows: &[u32], second: u64, count: u64) -> [u32; 20]
+    ensures { λ r. ⌜ r ≡ secondFrom (now (rows .entry)) second (min count (length (now (rows .entry)) / width)) ⌝ }
+{
+    let held = lists::smaller(count as usize, rows.len() / WIDTH);
+    from_rows(rows, second, held)
+}

@@ -1,0 +1,10 @@
+-- The number and the value of 01 for each case of opening's answer.
+use Rattle.record.specs.Answer.{Answer, accepted, refused}
+use Rattle.index_model.specs.declared.Opening.{Opening}
+use Rattle.index_model.specs.Opening.{noOpening}
+use Rattle.index_open.specs.declared.OpenAnswer.{OpenAnswer}
+use Rattle.index_open.specs.declared.OpenAnswer.the-variants as OpenAnswer
+
+abbrev pub shownOpen : OpenAnswer → Answer Opening
+shownOpen (OpenAnswer.Opened o) = accepted o
+shownOpen (OpenAnswer.Refused n) = refused noOpening n

@@ -1,0 +1,198 @@
+// Opening the index of seconds, 01's book, and what its value decides without a look at any cell: 13 to 17. Every function here
+// takes any numbers; a refusal is 01's number, and 0 is none.
+ghost use mathlib.Core.Path.{_≡_};
+ghost use mathlib.Core.List.{[], _∷_};
+ghost use Prim.Native.Nat.{_+_, _*_, _≤_};
+ghost use lib.Dec.{ltb};
+ghost use lib.ListN.{length};
+ghost use Rattle.lists.specs.Fill.{over};
+ghost use Rattle.record.specs.Refusal.{_when_, first, _then_};
+ghost use Rattle.record.specs.Record.{recordRefusal};
+ghost use Rattle.index_model.specs.Cells.{width};
+ghost use Rattle.index_model.specs.Opening.{daySeconds, limitsWrong, heldWrong, tooSmall, openingRefusal, otherReel, isOutside, inWindow, openingOf, openAnswer, openRows, openSeconds};
+ghost use Rattle.index_model.specs.Calls.{fullCount};
+ghost use Rattle.index_open.specs.Shown.{shownOpen};
+use header::Header;
+use index_model::Opening;
+
+// The cells of a row, and of a second.
+const WIDTH: usize = 20;
+
+// The highest record number that an index can have.
+const HIGHEST_LIMIT: u64 = 65_535;
+
+// The seconds of a day.
+const DAY_SECONDS: u64 = 86_400;
+
+// What every later call takes, or the refusal.
+pub enum OpenAnswer {
+    Opened(Opening),
+    Refused(u8),
+}
+
+// Whether F + C is above 86,400; no sum, so that no numbers can wrap.
+fn past_day(first: u64, count: u64) -> bool
+    ensures { λ r. ⌜ r ≡ ltb daySeconds (first + count) ⌝ }
+{
+    if count > DAY_SECONDS {
+        return true;
+    }
+    first > DAY_SECONDS - count
+}
+
+// Whether F, C or R is wrong.
+fn limits_wrong(o: Opening) -> bool
+    ensures { λ r. ⌜ r ≡ limitsWrong o ⌝ }
+{
+    let past = past_day(o.first_second, o.second_count);
+    (o.highest_number == 0)
+        | (o.highest_number > HIGHEST_LIMIT)
+        | (o.second_count == 0)
+        | (o.second_count > DAY_SECONDS)
+        | past
+}
+
+// Whether the held rate, tape, year or day is one that 5, 7 or 8 refuses.
+fn held_wrong(o: Opening) -> bool
+    ensures { λ r. ⌜ r ≡ heldWrong o ⌝ }
+{
+    let rate = rates::rate_of(o.sample_rate_hz);
+    (rate.0 == 0) | (o.tape_number == 0) | ((o.year > 99) | ((o.day == 0) | (o.day > 366)))
+}
+
+// Whether so many cells are fewer than those of so many rows or seconds; no product, so that no count can wrap.
+fn fewer_cells(cells: usize, count: u64) -> bool
+    ensures { λ r. ⌜ r ≡ ltb cells (width * count) ⌝ }
+{
+    let whole = (cells / WIDTH) as u64;
+    whole < count
+}
+
+// Whether the two buffers have too few cells.
+fn too_small(o: Opening, rows: usize, seconds: usize) -> bool
+    ensures { λ r. ⌜ r ≡ tooSmall o rows seconds ⌝ }
+{
+    let few_rows = fewer_cells(rows, o.highest_number);
+    let few_seconds = fewer_cells(seconds, o.second_count);
+    few_rows | few_seconds
+}
+
+// 13 where the limits are wrong, else 14 where the buffers are too small, else 0.
+fn refusal_of(wrong: bool, small: bool) -> u8
+    ensures { λ r. ⌜ r ≡ first (13 when wrong ∷ 14 when small ∷ []) ⌝ }
+{
+    if wrong {
+        return 13;
+    }
+    if small {
+        return 14;
+    }
+    0
+}
+
+// The refusal that every call after opening gives for the value that opening returned and for buffers of these lengths.
+pub fn opening_refusal(o: Opening, rows: usize, seconds: usize) -> u8
+    ensures { λ r. ⌜ r ≡ openingRefusal o rows seconds ⌝ }
+{
+    let limits = limits_wrong(o);
+    let held = held_wrong(o);
+    refusal_of(limits | held, too_small(o, rows, seconds))
+}
+
+// Whether a record with this header is of another reel.
+pub fn other_reel(o: Opening, h: Header) -> bool
+    ensures { λ r. ⌜ r ≡ otherReel o h ⌝ }
+{
+    (h.sample_rate_hz != o.sample_rate_hz)
+        | (h.year != o.year)
+        | (h.day != o.day)
+        | (h.tape_number != o.tape_number)
+        | (h.spacecraft != o.spacecraft)
+        | (h.spc != o.spc)
+}
+
+// Whether a record number is outside 1 to R.
+pub fn is_outside(o: Opening, n: u64) -> bool
+    ensures { λ r. ⌜ r ≡ isOutside o n ⌝ }
+{
+    (n == 0) | (n > o.highest_number)
+}
+
+// Whether a second is one of the window; no sum, so that no numbers can wrap.
+pub fn in_window(o: Opening, s: u64) -> bool
+    ensures { λ r. ⌜ r ≡ inWindow o s ⌝ }
+{
+    if s < o.first_second {
+        return false;
+    }
+    s - o.first_second < o.second_count
+}
+
+// L: the records of a full second; 0 where the held rate is none.
+pub fn full_count(o: Opening) -> u64
+    ensures { λ r. ⌜ r ≡ fullCount o ⌝ }
+{
+    let rate = rates::rate_of(o.sample_rate_hz);
+    rate.1
+}
+
+// F, C and R as given, with the pattern's values that 15 compares.
+fn opening_of(pattern: &[u8], first_second: u64, second_count: u64, highest_number: u64) -> Opening
+    ensures { λ r. ⌜ r ≡ openingOf (now (pattern .entry)) «first_second» «second_count» «highest_number» ⌝ }
+{
+    let h = header::read_fields(pattern);
+    Opening {
+        first_second,
+        second_count,
+        highest_number,
+        sample_rate_hz: h.sample_rate_hz,
+        tape_number: h.tape_number,
+        year: h.year,
+        day: h.day,
+        spacecraft: h.spacecraft,
+        spc: h.spc,
+    }
+}
+
+// The refusal of the pattern, then that of the limits and of buffers of these lengths.
+fn judge(pattern: &[u8], o: Opening, rows: usize, seconds: usize) -> u8
+    ensures { λ r. ⌜ r ≡ recordRefusal (now (pattern .entry)) then first (13 when limitsWrong o ∷ 14 when tooSmall o rows seconds ∷ []) ⌝ }
+{
+    let limits = refusal_of(limits_wrong(o), too_small(o, rows, seconds));
+    record::first_refusal(record::accept(pattern), limits)
+}
+
+// The first cells become 0; those past them stay.
+fn clear(cells: &mut [u32], count: usize)
+    requires { ⌜ count ≤ length (now cells) ⌝ }
+    ensures { λ _. ⌜ now (cells .exit) ≡ over (now (cells .entry)) (λ k. 0) count ⌝ }
+{
+    let mut k: usize = 0;
+    while k < count {
+        cells[k] = 0;
+        k += 1;
+    }
+}
+
+// Opens the index: the cells of R rows and of C seconds become 0, and none beyond is touched; a refusal touches none.
+pub fn open(
+    pattern: &[u8],
+    first_second: u64,
+    second_count: u64,
+    highest_number: u64,
+    rows: &mut [u32],
+    seconds: &mut [u32],
+) -> OpenAnswer
+    ensures { λ r. ⌜ shownOpen r ≡ openAnswer (now (pattern .entry)) «first_second» «second_count» «highest_number» (now (rows .entry)) (now (seconds .entry)) ⌝ }
+    ensures { λ r. ⌜ now (rows .exit) ≡ openRows (now (pattern .entry)) «first_second» «second_count» «highest_number» (now (rows .entry)) (now (seconds .entry)) ⌝ }
+    ensures { λ r. ⌜ now (seconds .exit) ≡ openSeconds (now (pattern .entry)) «first_second» «second_count» «highest_number» (now (rows .entry)) (now (seconds .entry)) ⌝ }
+{
+    let o = opening_of(pattern, first_second, second_count, highest_number);
+    let n = judge(pattern, o, rows.len(), seconds.len());
+    if n == 0 {
+        clear(rows, WIDTH * (highest_number as usize));
+        clear(seconds, WIDTH * (second_count as usize));
+        return OpenAnswer::Opened(o);
+    }
+    OpenAnswer::Refused(n)
+}

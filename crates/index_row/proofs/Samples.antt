@@ -1,0 +1,64 @@
+-- The totals of a record's sample stretch: the part that the code lends, and that they are bounded. Assumes nothing.
+use Prim.Native.Nat.{ℕ, _+_, _-_, _*_, _≤_}
+use mathlib.Core.Path.{_≡_, sym, subst, _∙_}
+use mathlib.Core.List.{List}
+use native.Mathlib.Omega.{arith}
+use lib.IntN.{ℤ}
+use lib.ListN.{length, take, drop, length-take, length-drop}
+use mir.Syntax.{w8}
+use mir.Val.{SFits}
+use Rattle.lists.proofs.Fill.{length-tab}
+use Rattle.channels.specs.Sample.{sampleOf, samplesOf}
+use Rattle.totals.specs.declared.Total.{Total}
+use Rattle.totals.specs.Total.{totalOf, totalsOf, countOf}
+use Rattle.totals.specs.Running.{totalAt}
+use Rattle.totals.proofs.Samples.{samples-bytes}
+use Rattle.totals.proofs.Sums.{sum-bound, squares-bound}
+use Rattle.totals.proofs.Extremes.{least-byte, greatest-byte}
+use Rattle.index_row.specs.Row.{Bounded}
+
+-- from byte 80, so many samples a channel
+module _ (b : List ℕ) (n : ℕ) (few : n ≤ 1000) (inside : 80 + 4 * n ≤ length b) where
+  abbrev part : List ℕ
+  part = take (80 + 4 * n - 80) (drop 80 b)
+
+  count-is : countOf part ≡ n
+  count-is =
+      let l : length part ≡ 4 * n = simp (length-take, length-drop) (omega arith) in
+      omega (arith, l)
+
+  pub part-totals : totalsOf part (countOf part) ≡ totalsOf (take (4 * n) (drop 80 b)) n
+  part-totals =
+      let e : 80 + 4 * n - 80 ≡ 4 * n = omega arith in
+      (λ i. totalsOf part (count-is i)) ∙ (λ i. totalsOf (take (e i) (drop 80 b)) n)
+
+-- a channel's total over n samples
+module _ (stretch : List ℕ) (channel n : ℕ) where
+  abbrev samples : List ℤ
+  samples = samplesOf stretch channel n
+
+  samples-length : length samples ≡ n
+  samples-length = length-tab (sampleOf stretch channel) 0 n
+
+  pub total-bounded : n ≤ 1000 → Bounded n (totalOf samples)
+  unfolding totalOf
+  total-bounded few =
+      record {
+        few = few;
+        sums = omega (arith, sum-bound samples (samples-bytes stretch channel n), samples-length);
+        squared = omega (arith, squares-bound samples (samples-bytes stretch channel n), samples-length);
+      }
+
+  pub total-bytes : SFits w8 (totalOf samples .least) × SFits w8 (totalOf samples .greatest)
+  unfolding totalOf
+  total-bytes = (least-byte samples (samples-bytes stretch channel n), greatest-byte samples (samples-bytes stretch channel n))
+
+-- the totals of the four channels
+abbrev pub AllBounded : ℕ → List Total → Type 0
+AllBounded n totals = Bounded n (totalAt totals 1) × Bounded n (totalAt totals 2) × Bounded n (totalAt totals 3) × Bounded n (totalAt totals 4)
+
+pub totals-bounded : (stretch : List ℕ) (n : ℕ) {totals : List Total} → totals ≡ totalsOf stretch n → n ≤ 1000 → AllBounded n totals
+unfolding totalsOf
+totals-bounded stretch n e few =
+    let of : (channel : ℕ) → Bounded n (totalOf (samplesOf stretch channel n)) = λ channel. total-bounded stretch channel n few in
+    subst (AllBounded n) (sym e) (of 1, of 2, of 3, of 4)
