@@ -5,23 +5,22 @@ use mathlib.Core.Bool.{Bool, true, false, cond}
 use mathlib.Core.List.{List}
 use native.Mathlib.Nat.{pow-le-pow-right}
 use native.Mathlib.Omega.{arith}
-use lib.Dec.{T, eqb, lit<, ltb→lt}
+use lib.Dec.{eqb, lit<, ltb→lt}
 use lib.IntN.{ℤ, pos, negℤ, natAbs}
 use lib.ListN.{length}
 use mir.Facts.{toZ-ofZ}
 use mir.Syntax.{w64}
 use mir.Val.{SFits, toZ, ofZ}
-use Rattle.lists.proofs.Truth.{held}
 use Rattle.fields.specs.Field.{decimalFits, binaryFits}
-use Rattle.fields.specs.Table.{readAll, allDigitsGood, allFit}
-use Rattle.fields.proofs.Tables.{values-fit, fit-at}
+use Rattle.fields.specs.Table.{readAll}
+use Rattle.fields.proofs.Tables.{fit-at}
 use Rattle.header.specs.Format.{fields}
 use Rattle.header.specs.declared.Header.{Header}
 use Rattle.header.specs.Header.{headerOf}
 use Rattle.record.specs.Answer.{Answer, unless}
 use Rattle.record.specs.FrequencyRate.{rateUnits, headerRate, rateAnswer}
 use Rattle.record.specs.Record.{recordRefusal}
-use Rattle.record.proofs.Accepted.{record-facts, digits-small, power-small}
+use Rattle.record.proofs.Accepted.{record-facts, digits-small, power-small, values-small}
 use Rattle.record.proofs.Signs.{size-bound}
 use Rattle.text.specs.Text.{recordLine}
 use Rattle.text.proofs.Line.{recordLine-length}
@@ -62,20 +61,17 @@ rate-size digits power sign = by-test (eqb sign 1)
     by-test false = size-of (digits * 10 ^ power)
 
 module _ (b : List ℕ) (e : recordRefusal b ≡ 0) where
-  values-small : T (allFit decimalFits fields (readAll fields b)) × T (allFit binaryFits fields (readAll fields b))
-  values-small = values-fit fields b (held (allDigitsGood fields b) (record-facts b e .good))
-
   origin-small : headerOf b .«clock_origin» < 2
   unfolding headerOf
-  origin-small = ltb→lt _ _ (fit-at binaryFits fields (readAll fields b) 0 (values-small .1) (lit< tt))
+  origin-small = ltb→lt _ _ (fit-at binaryFits fields (readAll fields b) 0 (values-small b e .1) (lit< tt))
 
   number-small : headerOf b .«record_number» < 65536
   unfolding headerOf
-  number-small = ltb→lt _ _ (fit-at binaryFits fields (readAll fields b) 6 (values-small .1) (lit< tt))
+  number-small = ltb→lt _ _ (fit-at binaryFits fields (readAll fields b) 6 (values-small b e .1) (lit< tt))
 
   frequency-small : headerOf b .«readback_uhz» < 10 ^ 14
   unfolding headerOf
-  frequency-small = ltb→lt _ _ (fit-at decimalFits fields (readAll fields b) 26 (values-small .0) (lit< tt))
+  frequency-small = ltb→lt _ _ (fit-at decimalFits fields (readAll fields b) 26 (values-small b e .0) (lit< tt))
 
   time-small : timeAnswer b 0 .value < 10 ^ 12
   unfolding timeAnswer

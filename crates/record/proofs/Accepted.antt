@@ -66,8 +66,8 @@ module _ (b : List ℕ) (e : recordRefusal b ≡ 0) where
       let l = f .line in
       ⊎-elim (λ p. omega (arith, p, f .words, l .last, l .longer)) (λ p. omega (arith, p, f .words, l .last, l .shorter)) (f .size)
 
-  -- the rate's digits and power are small
-  values-small : T (allFit decimalFits fields (readAll fields b)) × T (allFit binaryFits fields (readAll fields b))
+  -- every value fits its field, so the rate's digits and power are small
+  pub values-small : T (allFit decimalFits fields (readAll fields b)) × T (allFit binaryFits fields (readAll fields b))
   values-small = values-fit fields b (held (allDigitsGood fields b) (record-facts .good))
 
   pub digits-small : headerOf b .«rate_digits» < 100000

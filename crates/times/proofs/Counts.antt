@@ -7,29 +7,25 @@ use lib.Ieee.Exact.{HasValue}
 use Rattle.phase.specs.Phase.{fractionBits, phaseOf}
 use mathlib.Core.Path.{_≡_, sym, subst, _∙_}
 use mathlib.Core.List.{List}
-use lib.Dec.{T, lit<, ltb→lt}
-use Rattle.lists.proofs.Truth.{held}
+use lib.Dec.{lit<, ltb→lt}
 use Rattle.fields.specs.Field.{binaryFits}
-use Rattle.fields.specs.Table.{readAll, allDigitsGood, allFit}
-use Rattle.fields.proofs.Tables.{values-fit, fit-at}
+use Rattle.fields.specs.Table.{readAll}
+use Rattle.fields.proofs.Tables.{fit-at}
 use Rattle.header.specs.declared.Header.{Header}
 use Rattle.header.specs.Format.{fields}
 use Rattle.header.specs.Header.{headerOf}
 use Rattle.record.specs.Record.{recordRefusal}
-use Rattle.record.proofs.Accepted.{record-facts}
+use Rattle.record.proofs.Accepted.{values-small}
 
 abbrev Small : Header → Type 0
 Small h = (h .«phase_1» < 2 ^ 48) × (h .«phase_2» < 2 ^ 48)
 
 module _ (b : List ℕ) (e : recordRefusal b ≡ 0) where
-  values-small : T (allFit binaryFits fields (readAll fields b))
-  values-small = values-fit fields b (held (allDigitsGood fields b) (record-facts b e .good)) .1
-
   pub counts-small : Small (headerOf b)
   unfolding headerOf
   counts-small = (
-    ltb→lt _ _ (fit-at binaryFits fields (readAll fields b) 34 values-small (lit< tt)),
-    ltb→lt _ _ (fit-at binaryFits fields (readAll fields b) 35 values-small (lit< tt)),
+    ltb→lt _ _ (fit-at binaryFits fields (readAll fields b) 34 (values-small b e .1) (lit< tt)),
+    ltb→lt _ _ (fit-at binaryFits fields (readAll fields b) 35 (values-small b e .1) (lit< tt)),
   )
 
 -- for a call that worked out the refusal r and read the header h

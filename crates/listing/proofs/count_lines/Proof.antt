@@ -32,7 +32,7 @@ module _ (c : tie.After-line-length Inv-loop μ-loop) where
 
   counted : length (linesFrom reel (turn .loop .to-count) (turn .loop .place)) ≡ c .line-length .result + length (linesFrom reel (turn .loop .to-count - 1) (nextPlace reel (turn .loop .place)))
   counted =
-      count-step reel (turn .loop .to-count) (turn .loop .place) (c .before .before .loop-test .taken)
+      count-step reel (turn .loop .to-count) (turn .loop .place) (omega arith)
       (c .line-length .ensures ∙ ap (λ (b : List ℕ). length (lineOf b)) (c .before .record-at .ensures))
 
 record-at-requires : tie.Need-record-at-requires Inv-loop μ-loop
@@ -62,7 +62,7 @@ loop-again c =
     let r = reel l in
     let next = c .next-place .ensures in (
       omega (arith, counted l, t .inv .0, ap (λ (k : ℕ). length (linesFrom r (t .to-count - 1) k)) next),
-      ap (placeFrom r (t .to-count - 1)) next ∙ sym (place-step r (t .to-count) (t .place) (l .before .before .loop-test .taken)) ∙ t .inv .1,
+      ap (placeFrom r (t .to-count - 1)) next ∙ sym (place-step r (t .to-count) (t .place) (omega arith)) ∙ t .inv .1,
     )
 
 returns : tie.Need-returns Inv-loop μ-loop

@@ -66,7 +66,7 @@ returns : tie.Need-returns
 returns c =
     let r = c .before .before .before .before in
     let out = now (start r .args .out) in
-    text-refused (textRefusal out (listing (input r))) out (listing (input r)) (too-short out (listing (input r)) (counted (c .before)) (c .if1 .taken)) (λ z. omega (arith, z))
+    text-refused (textRefusal out (listing (input r))) out (listing (input r)) (too-short out (listing (input r)) (counted (c .before)) (omega arith)) (λ z. omega (arith, z))
 
 put-header-line-requires : tie.Need-put-header-line-requires
 put-header-line-requires c κs = search needs
@@ -92,7 +92,7 @@ returns-2 c =
     let n = counted (e .before) in
     let header = written-put out headerLine (omega (arith, size r, n, e .if1 .left)) (head .put-header-line .ensures .1) (e .before .before .before .header-line-length .ensures) in
     let written = written-both (text r) header (written-both refl (lines .write-lines .ensures) (end .write-end-line .ensures)) in
-    text-written (textRefusal out whole) out whole (has-room out whole n (e .if1 .left)) n (e .if1 .left) (written .buffer)
+    text-written (textRefusal out whole) out whole (has-room out whole n (omega arith)) n (omega arith) (written .buffer)
 
 pub list-reel-spec : {M : Type 1} → statement M
 list-reel-spec =

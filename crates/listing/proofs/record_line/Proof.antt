@@ -29,7 +29,7 @@ returns-2 c =
     let b = now (a .bytes) in
     let out = now (a .out) in
     let j = record-accepted b out (t .accept .ensures) (c .before .before .if1 .left) in
-    text-refused (lineRefusal b out) out (recordText b) (too-short out (recordText b) (c .before .text-length .ensures) (c .if2 .taken) ∙ sym j) (λ z. omega (arith, z))
+    text-refused (lineRefusal b out) out (recordText b) (too-short out (recordText b) (c .before .text-length .ensures) (omega arith) ∙ sym j) (λ z. omega (arith, z))
 
 write-text-requires : tie.Need-write-text-requires
 write-text-requires c κs = search needs
@@ -46,7 +46,7 @@ returns-3 c =
     let out = now (a .out) in
     let j = record-accepted b out (t .accept .ensures) (l .before .before .if1 .left) in
     let count = l .before .text-length .ensures in
-    text-written (lineRefusal b out) out (recordText b) (j ∙ has-room out (recordText b) count (l .if2 .left)) count (l .if2 .left) (c .before .before .write-text .ensures .buffer)
+    text-written (lineRefusal b out) out (recordText b) (j ∙ has-room out (recordText b) count (omega arith)) count (omega arith) (c .before .before .write-text .ensures .buffer)
 
 pub record-line-spec : {M : Type 1} → statement M
 record-line-spec =

@@ -38,7 +38,7 @@ module _ (c : tie.After-record-at Inv-loop μ-loop) where
   split : lineOf (now (c .record-at .result)) ++ linesFrom reel (turn .loop .to-write - 1) (nextPlace reel (turn .loop .place)) ≡ linesFrom reel (turn .loop .to-write) (turn .loop .place)
   split =
       ap (λ (b : List ℕ). lineOf b ++ linesFrom reel (turn .loop .to-write - 1) (nextPlace reel (turn .loop .place))) (c .record-at .ensures)
-      ∙ sym (lines-step reel (turn .loop .to-write) (turn .loop .place) (c .before .before .loop-test .taken))
+      ∙ sym (lines-step reel (turn .loop .to-write) (turn .loop .place) (omega arith))
 
 write-line-requires : tie.Need-write-line-requires Inv-loop μ-loop
 write-line-requires c κs =
