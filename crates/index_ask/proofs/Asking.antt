@@ -1,7 +1,7 @@
 -- A question by its refusal: what an accepted one may take for granted, and its answer. Assumes nothing.
-use Prim.Native.Nat.{ℕ, _+_, _-_, _≤_, _<_}
+use Prim.Native.Nat.{ℕ, _+_, _≤_, _<_}
 use mathlib.Core.Path.{_≡_, ap, _∙_}
-use mathlib.Core.Bool.{true, not}
+use mathlib.Core.Bool.{not}
 use mathlib.Core.List.{List, [], _∷_}
 use native.Mathlib.Omega.{arith}
 use lib.ListN.{length}
@@ -10,7 +10,7 @@ use Rattle.record.specs.Answer.{accepted, refused}
 use Rattle.record.specs.Refusal.{_when_, first, _then_}
 use Rattle.record.proofs.Refusals.{then-zero, none-applies, unless-none, unless-some}
 use Rattle.index_model.specs.declared.Opening.{Opening}
-use Rattle.index_model.specs.Second.{SecondTotals, noSecond}
+use Rattle.index_model.specs.Second.{noSecond}
 use Rattle.index_model.specs.Cells.{blockAt}
 use Rattle.index_model.specs.Opening.{openingRefusal, inWindow, placeOf}
 use Rattle.index_model.specs.Calls.{secondShown, askRefusal, askAnswer}

@@ -1,22 +1,21 @@
 -- A channel's total read from its four cells, and the samples that a second can have at most. Assumes nothing.
-use Prim.Native.Nat.{ℕ, suc, _+_, _-_, _*_, _%_, _≤_, _<_}
-use mathlib.Core.Path.{_≡_, ap, sym, _∙_, subst}
+use Prim.Native.Nat.{ℕ, suc, _-_, _*_, _≤_, _<_}
+use mathlib.Core.Path.{_≡_, sym, _∙_, subst}
 use mathlib.Core.Bool.{Bool, true, false, cond}
 use mathlib.Core.List.{List}
 use mathlib.Core.Logic.{⊎-elim}
 use native.Mathlib.Nat.{mul-le-mul}
 use native.Mathlib.Omega.{arith}
-use lib.Dec.{eqb, ltb}
-use lib.IntN.{ℤ, pos, negsuc, subℕ, _-ℤ_}
+use lib.Dec.{ltb}
+use lib.IntN.{pos, negsuc, _-ℤ_}
 use lib.ListN.{getD}
-use borrow.Author.Tests.{eq-eqb, ne-eqb, ltb-true, ltb-false}
+use borrow.Author.Tests.{eq-eqb, ne-eqb}
 use mir.Syntax.{w64}
 use mir.Val.{SFits, toZ, ofZ}
 use mir.ValLaws.{toZ-pos, toZ-ofZ}
 use Rattle.rates.specs.declared.Rate.{Rate}
 use Rattle.rates.specs.Rates.{rateOf, samplesPerRecord}
 use Rattle.rates.proofs.Lines.{rate-line}
-use Rattle.totals.specs.declared.Total.{Total}
 use Rattle.totals.specs.Total.{noTotal}
 use Rattle.index_model.specs.Calls.{channelShown, totalFrom}
 use Rattle.index_model.proofs.Differences.{minus-sub}

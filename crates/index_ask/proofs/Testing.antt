@@ -1,5 +1,5 @@
 -- The test: its loops, one cell, one row or one second more, and its answer. Assumes nothing.
-use Prim.Native.Nat.{ℕ, zero, suc, _+_, _*_, _/_, _≤_, _<_, min}
+use Prim.Native.Nat.{ℕ, zero, suc, _+_, _/_, _≤_, _<_, min}
 use mathlib.Core.Path.{_≡_, refl, ap, sym, _∙_}
 use mathlib.Core.Bool.{Bool, false, _&&_, _||_}
 use mathlib.Core.List.{List}
@@ -10,14 +10,13 @@ use lib.ListN.{length, getD}
 use Rattle.record.specs.Answer.{accepted, refused}
 use Rattle.record.proofs.Refusals.{unless-none, unless-some}
 use Rattle.index_model.specs.declared.Opening.{Opening}
-use Rattle.index_model.specs.Cells.{width, cell, blockAt, cellFrom, secondFrom}
+use Rattle.index_model.specs.Cells.{width, cell, blockAt, secondFrom}
 use Rattle.index_model.specs.Opening.{openingRefusal, inWindow}
 use Rattle.index_model.specs.Calls.{rowsInside, cellsRight, secondsRight, isConsistent, testAnswer}
 use Rattle.index_model.proofs.Blocks.{block-at}
 use Rattle.index_model.proofs.Seconds.{second-at}
 use Rattle.index_cells.specs.Blocks.{blockOrNone}
 use Rattle.index_cells.specs.Limits.{WithinLimits}
-use Rattle.index_cells.proofs.Parts.{first-cell}
 use Rattle.index_cells.proofs.Limits.{block-read, all-rows}
 use Rattle.index_ask.specs.Inner.{sameTo}
 
@@ -26,10 +25,9 @@ unfolding sameTo
 same-more a b j same e = (λ t. e t && eqb (getD a j 0) (getD b j 0)) ∙ (λ t. sameTo a b (sym (add-one j) t))
 
 module _ (o : Opening) (rows : List ℕ) where
-  pub rows-more : (i : ℕ) (inside next : Bool) → inside ≡ rowsInside o rows i → next ≡ (eqb (getD rows (width * i) 0) 0 || inWindow o (getD rows (width * i + 3) 0)) → (inside && next) ≡ rowsInside o rows (i + 1)
+  pub rows-more : (i : ℕ) (inside next : Bool) → inside ≡ rowsInside o rows i → next ≡ (eqb (cell rows i 0) 0 || inWindow o (cell rows i 3)) → (inside && next) ≡ rowsInside o rows (i + 1)
   unfolding rowsInside
-  rows-more i inside next e n =
-      (λ t. e t && (n ∙ (λ u. eqb (first-cell rows i u) 0 || inWindow o (cell rows i 3))) t) ∙ (λ t. rowsInside o rows (sym (add-one i) t))
+  rows-more i inside next e n = (λ t. e t && n t) ∙ (λ t. rowsInside o rows (sym (add-one i) t))
 
   module _ (seconds : List ℕ) where
     cells-same : (k m : ℕ) → m ≤ width → sameTo (blockAt seconds k) (secondFrom rows (o .«first_second» + k) (o .«highest_number»)) m ≡ cellsRight o rows seconds k m

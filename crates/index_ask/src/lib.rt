@@ -18,8 +18,16 @@ ghost use Rattle.index_model.specs.Calls.{leastFrom, greatestFrom, totalFrom, k
 ghost use Rattle.index_cells.specs.Limits.{WithinLimits};
 ghost use Rattle.index_ask.specs.Inner.{sampleLimit, sameTo};
 ghost use Rattle.index_ask.specs.Shown.{shownSecond, shownTest};
+use index_cells::ERRORS;
+use index_cells::ORIGINS;
+use index_cells::RECORDS;
+use index_cells::SECOND;
+use index_cells::WIDTH;
 use index_model::Opening;
 use totals::Total;
+
+// What each sample adds to the cell of the sum beside its own value.
+const SUM_OFFSET: u64 = 128;
 
 // A second's totals and verdict, beside the refusal. An enum cannot hold an array, so the refusal is a field; with one, every
 // other field is 0.
@@ -38,32 +46,26 @@ pub enum TestAnswer {
     Refused(u8),
 }
 
-fn wide(x: u32) -> u64
-    ensures { λ r. ⌜ (r ≡ x) × (r < 4294967296) ⌝ }
-{
-    x as u64
-}
-
-// The least sample, from its cell.
+// The least sample: 128 less its cell, as a signed byte.
 fn least_from(x: u32) -> i8
     ensures { λ r. ⌜ r ≡ leastFrom x ⌝ }
 {
     channels::signed(((384 - x % 256) % 256) as u8)
 }
 
-// The greatest sample, from its cell.
+// The greatest sample: its cell less 129, as a signed byte.
 fn greatest_from(x: u32) -> i8
     ensures { λ r. ⌜ r ≡ greatestFrom x ⌝ }
 {
     channels::signed(((x % 256 + 127) % 256) as u8)
 }
 
-// The sum of so many samples, from its cell.
+// The sum of so many samples: its cell is the sum of (sample + 128).
 fn sum_from(x: u32, count: u64) -> i64
     requires { ⌜ count ≤ sampleLimit ⌝ }
     ensures { λ r. ⌜ r ≡ pos x -ℤ pos (128 * count) ⌝ }
 {
-    (x as i64) - ((128 * count) as i64)
+    (x as i64) - ((SUM_OFFSET * count) as i64)
 }
 
 // The total of a channel (1 to 4) from the cells of a second that has so many samples of it.
@@ -71,7 +73,7 @@ fn total_from(cells: [u32; 20], count: u64, channel: usize) -> Total
     requires { ⌜ (count ≤ sampleLimit) × (1 ≤ channel) × (channel ≤ 4) ⌝ }
     ensures { λ r. ⌜ r ≡ totalFrom count cells channel ⌝ }
 {
-    if cells[0] == 0 {
+    if cells[RECORDS] == 0 {
         return Total {
             sum: 0,
             squares: 0,
@@ -82,7 +84,7 @@ fn total_from(cells: [u32; 20], count: u64, channel: usize) -> Total
     let at = 4 * channel;
     Total {
         sum: sum_from(cells[at], count),
-        squares: wide(cells[at + 1]),
+        squares: index_cells::wide(cells[at + 1]),
         least: least_from(cells[at + 2]),
         greatest: greatest_from(cells[at + 3]),
     }
@@ -92,8 +94,8 @@ fn total_from(cells: [u32; 20], count: u64, channel: usize) -> Total
 fn is_kept(cells: [u32; 20], full: u64) -> bool
     ensures { λ r. ⌜ r ≡ keptFrom full cells ⌝ }
 {
-    let records = wide(cells[0]);
-    (records == full) & (cells[1] >= 1) & (cells[2] == 0)
+    let records = index_cells::wide(cells[RECORDS]);
+    (records == full) & (cells[ORIGINS] >= 1) & (cells[ERRORS] == 0)
 }
 
 // The samples of each channel in so many records.
@@ -101,7 +103,7 @@ fn sample_count(o: Opening, records: u32) -> u64
     ensures { λ r. ⌜ (r ≡ records * samplesPerRecord (rateOf (o .«sample_rate_hz»))) × (r ≤ sampleLimit) ⌝ }
 {
     let rate = rates::rate_of(o.sample_rate_hz);
-    wide(records) * rate.2
+    index_cells::wide(records) * rate.2
 }
 
 // The totals of channels 1 to 4.
@@ -116,31 +118,17 @@ fn totals_from(cells: [u32; 20], count: u64) -> [Total; 4]
     [one, two, three, four]
 }
 
-// Whether the cells of two seconds are the same.
-fn same_cells(a: [u32; 20], b: [u32; 20]) -> bool
-    ensures { λ r. ⌜ r ≡ sameTo a b width ⌝ }
-{
-    let mut same = true;
-    let mut j: usize = 0;
-    while j < index_cells::WIDTH {
-        let equal = a[j] == b[j];
-        same = same & equal;
-        j += 1;
-    }
-    same
-}
-
 // What the cells of a second say.
 fn second_from(o: Opening, cells: [u32; 20]) -> SecondAnswer
     ensures { λ r. ⌜ shownSecond r ≡ accepted (secondShown o cells) ⌝ }
 {
-    let count = sample_count(o, cells[0]);
+    let count = sample_count(o, cells[RECORDS]);
     let channels = totals_from(cells, count);
     SecondAnswer {
         refusal: 0,
-        records: wide(cells[0]),
-        origins: wide(cells[1]),
-        errors: wide(cells[2]),
+        records: index_cells::wide(cells[RECORDS]),
+        origins: index_cells::wide(cells[ORIGINS]),
+        errors: index_cells::wide(cells[ERRORS]),
         channels,
         kept: is_kept(cells, index_open::full_count(o)),
     }
@@ -196,11 +184,11 @@ pub fn ask(o: Opening, second: u64, rows: &[u32], seconds: &[u32]) -> SecondAnsw
     no_second(n)
 }
 
-// Whether a row, by its cells 0 and 3, is not held or of a second of the window.
+// Whether a row, by its cells of records and second, is not held or is of a second of the window.
 fn row_inside(o: Opening, held: u32, own: u32) -> bool
     ensures { λ r. ⌜ r ≡ (eqb held 0 || inWindow o own) ⌝ }
 {
-    let inside = index_open::in_window(o, wide(own));
+    let inside = index_open::in_window(o, index_cells::wide(own));
     (held == 0) | inside
 }
 
@@ -213,12 +201,26 @@ fn rows_inside(o: Opening, rows: &[u32]) -> bool
     let mut inside = true;
     let mut i: usize = 0;
     while i < count {
-        let at = index_cells::WIDTH * i;
-        let next = row_inside(o, rows[at], rows[at + 3]);
+        let at = WIDTH * i;
+        let next = row_inside(o, rows[at + RECORDS], rows[at + SECOND]);
         inside = inside & next;
         i += 1;
     }
     inside
+}
+
+// Whether the cells of two seconds are the same.
+fn same_cells(a: [u32; 20], b: [u32; 20]) -> bool
+    ensures { λ r. ⌜ r ≡ sameTo a b width ⌝ }
+{
+    let mut same = true;
+    let mut j: usize = 0;
+    while j < WIDTH {
+        let equal = a[j] == b[j];
+        same = same & equal;
+        j += 1;
+    }
+    same
 }
 
 // Whether the cells of second k of the window are those that the rows give.

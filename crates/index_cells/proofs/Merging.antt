@@ -5,7 +5,6 @@ use mathlib.Core.Bool.{Bool, true, false, cond, true≢false}
 use mathlib.Core.List.{List}
 use native.Mathlib.Omega.{arith}
 use native.Mathlib.Numerals.{add-one}
-use lib.ListN.{getD}
 use Rattle.lists.specs.Fill.{tab}
 use Rattle.lists.proofs.Fill.{tab-ext}
 use Rattle.index_model.specs.Cells.{width, cell, blockAt, noRow, mergeBy, merge, merged, mergeIf, rowWithin, cellFrom, secondFrom}

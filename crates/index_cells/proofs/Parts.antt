@@ -1,37 +1,26 @@
 -- Laws of a row or a second as a part of its buffer. Assumes nothing.
 use Prim.Native.Nat.{ℕ, _+_, _-_, _*_, _/_, _<_, _≤_}
 use mathlib.Core.Path.{_≡_, sym, _∙_}
-use mathlib.Core.Bool.{cond, not, _&&_}
+use mathlib.Core.Bool.{cond}
 use mathlib.Core.List.{List}
 use native.Mathlib.Omega.{arith}
-use native.Mathlib.Nat.{add-zero, add-sub-cancel-left}
-use lib.Dec.{eqb}
-use lib.ListN.{getD, length}
+use native.Mathlib.Nat.{add-sub-cancel-left}
+use lib.ListN.{length}
 use borrow.Author.Tests.{lt-ltb, le-ltb}
 use borrow.Rule.Slice.PartMut.{putMid}
 use Rattle.lists.specs.Fill.{tab}
 use Rattle.lists.proofs.Fill.{Filled, tab-ext}
-use Rattle.index_model.specs.Cells.{width, cell, blockAt, withBlock, noRow, rowWithin}
-use Rattle.index_model.proofs.Blocks.{block-cells}
+use Rattle.index_model.specs.Cells.{width, blockAt, withBlock, noRow}
 use Rattle.index_cells.specs.Blocks.{blockOrNone, blockPut}
 
 -- a list of a row's length whose cells are all filled by a rule
 pub all-filled : {b : List ℕ} {f : ℕ → ℕ} {n : ℕ} {l : List ℕ} → n ≡ width → length b ≡ width → Filled b f 0 n l → l ≡ tab f 0 width
 all-filled {b} {f} {n} {l} e w o = tab-ext f width 0 l (o .same ∙ w) (λ i h. o .low i (omega (arith, e)))
 
--- the first cell of row i, as it is read
-pub first-cell : (l : List ℕ) (i : ℕ) → getD l (width * i) 0 ≡ cell l i 0
-first-cell l i = λ t. getD l (sym (add-zero (width * i)) t) 0
-
 -- a part lent and given back
 pub part-put : (l : List ℕ) (i : ℕ) (block : List ℕ) → putMid (width * i) (width * i + width - width * i) l block ≡ withBlock l i block
 unfolding withBlock
 part-put l i block = λ t. putMid (width * i) (add-sub-cancel-left (width * i) width t) l block
-
--- whether row i is held and of second s, as it is read
-pub within-read : (l : List ℕ) (i s : ℕ) → (not (eqb (getD l (width * i) 0) 0) && eqb (getD l (width * i + 3) 0) s) ≡ rowWithin l i s
-unfolding rowWithin
-within-read l i s = λ t. not (eqb (first-cell l i t) 0) && eqb (cell l i 3) s
 
 -- a buffer that holds row i, and one that does not
 module _ (cells : List ℕ) (i : ℕ) where

@@ -2,14 +2,24 @@
 // 01: "The book". Every function here takes any cells.
 ghost use mathlib.Core.Path.{_≡_};
 ghost use mathlib.Core.Bool.{cond, not, _&&_};
-ghost use Prim.Native.Nat.{_+_, _*_, _/_, _≤_, min};
+ghost use Prim.Native.Nat.{_+_, _*_, _/_, _≤_, _<_, min};
 ghost use lib.Dec.{eqb};
 ghost use lib.ListN.{length};
-ghost use Rattle.index_model.specs.Cells.{width, blockAt, withBlock, isGreatest, merge, merged, rowWithin, secondFrom};
+ghost use Rattle.index_model.specs.Cells.{width, blockAt, isGreatest, merge, merged, rowWithin, secondFrom};
 ghost use Rattle.index_cells.specs.Blocks.{blockOrNone, blockPut};
 
 // Cells in a row, and in a second.
 pub const WIDTH: usize = 20;
+
+// The cells before those of the channels: records (1 in a row that is held), records with clock origin 1, records with copy
+// error 1, and in a row its second.
+pub const RECORDS: usize = 0;
+
+pub const ORIGINS: usize = 1;
+
+pub const ERRORS: usize = 2;
+
+pub const SECOND: usize = 3;
 
 // The cells of row (or second) i of a buffer.
 fn read_block(cells: &[u32], i: usize) -> [u32; 20]
@@ -93,13 +103,14 @@ pub fn merged_cells(second: [u32; 20], row: [u32; 20]) -> [u32; 20]
     cells
 }
 
-fn wide(x: u32) -> u64
-    ensures { λ r. ⌜ r ≡ x ⌝ }
+// A cell as a wider number.
+pub fn wide(x: u32) -> u64
+    ensures { λ r. ⌜ (r ≡ x) × (r < 4294967296) ⌝ }
 {
     x as u64
 }
 
-// Whether a row is held and of a second, by its cells 0 and 3.
+// Whether a row is held and of a second, by its cells of records and second.
 pub fn is_of(held: u32, own: u32, second: u64) -> bool
     ensures { λ r. ⌜ r ≡ not (eqb held 0) && eqb own second ⌝ }
 {
@@ -112,7 +123,7 @@ fn with_row(cells: [u32; 20], rows: &[u32], i: usize, second: u64) -> [u32; 20]
     ensures { λ r. ⌜ r ≡ cond (rowWithin (now (rows .entry)) i second) (merged cells (blockAt (now (rows .entry)) i)) cells ⌝ }
 {
     let at = WIDTH * i;
-    if is_of(rows[at], rows[at + 3], second) {
+    if is_of(rows[at + RECORDS], rows[at + SECOND], second) {
         return merged_cells(cells, read_block(rows, i));
     }
     cells

@@ -1,5 +1,5 @@
 -- The totals of a record's sample stretch: the part that the code lends, and that they are bounded. Assumes nothing.
-use Prim.Native.Nat.{ℕ, _+_, _-_, _*_, _≤_}
+use Prim.Native.Nat.{ℕ, zero, suc, _+_, _-_, _*_, _≤_}
 use mathlib.Core.Path.{_≡_, sym, subst, _∙_}
 use mathlib.Core.List.{List}
 use native.Mathlib.Omega.{arith}
@@ -11,11 +11,10 @@ use Rattle.lists.proofs.Fill.{length-tab}
 use Rattle.channels.specs.Sample.{sampleOf, samplesOf}
 use Rattle.totals.specs.declared.Total.{Total}
 use Rattle.totals.specs.Total.{totalOf, totalsOf, countOf}
-use Rattle.totals.specs.Running.{totalAt}
 use Rattle.totals.proofs.Samples.{samples-bytes}
 use Rattle.totals.proofs.Sums.{sum-bound, squares-bound}
 use Rattle.totals.proofs.Extremes.{least-byte, greatest-byte}
-use Rattle.index_row.specs.Row.{Bounded}
+use Rattle.index_row.specs.Row.{Bounded, AllBounded}
 
 -- from byte 80, so many samples a channel
 module _ (b : List ℕ) (n : ℕ) (few : n ≤ 1000) (inside : 80 + 4 * n ≤ length b) where
@@ -54,11 +53,14 @@ module _ (stretch : List ℕ) (channel n : ℕ) where
   total-bytes = (least-byte samples (samples-bytes stretch channel n), greatest-byte samples (samples-bytes stretch channel n))
 
 -- the totals of the four channels
-abbrev pub AllBounded : ℕ → List Total → Type 0
-AllBounded n totals = Bounded n (totalAt totals 1) × Bounded n (totalAt totals 2) × Bounded n (totalAt totals 3) × Bounded n (totalAt totals 4)
+all-bounded : (stretch : List ℕ) (n : ℕ) → n ≤ 1000 → AllBounded n (totalsOf stretch n)
+unfolding totalsOf
+all-bounded stretch n few zero p q = absurd (let z : ⊥ = omega arith in z)
+all-bounded stretch n few (suc zero) p q = total-bounded stretch 1 n few
+all-bounded stretch n few (suc (suc zero)) p q = total-bounded stretch 2 n few
+all-bounded stretch n few (suc (suc (suc zero))) p q = total-bounded stretch 3 n few
+all-bounded stretch n few (suc (suc (suc (suc zero)))) p q = total-bounded stretch 4 n few
+all-bounded stretch n few (suc (suc (suc (suc (suc k))))) p q = absurd (let z : ⊥ = omega arith in z)
 
 pub totals-bounded : (stretch : List ℕ) (n : ℕ) {totals : List Total} → totals ≡ totalsOf stretch n → n ≤ 1000 → AllBounded n totals
-unfolding totalsOf
-totals-bounded stretch n e few =
-    let of : (channel : ℕ) → Bounded n (totalOf (samplesOf stretch channel n)) = λ channel. total-bounded stretch channel n few in
-    subst (AllBounded n) (sym e) (of 1, of 2, of 3, of 4)
+totals-bounded stretch n e few = subst (AllBounded n) (sym e) (all-bounded stretch n few)

@@ -6,6 +6,7 @@ use lib.Dec.{eqb}
 use lib.IntN.{natAbs}
 use Rattle.record.specs.Record.{recordRefusal}
 use Rattle.totals.specs.declared.Total.{Total}
+use Rattle.totals.specs.Running.{totalAt}
 use Rattle.index_model.specs.Cells.{rowOf, noRow}
 use Rattle.index_row.specs.declared.ChannelCells.{ChannelCells}
 
@@ -22,3 +23,7 @@ pub record Bounded (n : ℕ) (t : Total) : Type 0 where
   pub few : n ≤ 1000
   pub sums : natAbs (t .sum) ≤ 128 * n
   pub squared : t .squares ≤ 16384 * n
+
+-- so are the totals of the four channels
+abbrev pub AllBounded : ℕ → List Total → Type 0
+AllBounded n totals = (channel : ℕ) → 1 ≤ channel → channel ≤ 4 → Bounded n (totalAt totals channel)

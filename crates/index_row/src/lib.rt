@@ -9,7 +9,7 @@ ghost use Rattle.record.specs.Record.{headerBytes, recordRefusal};
 ghost use Rattle.totals.specs.Total.{totalsOf};
 ghost use Rattle.totals.specs.Running.{totalAt};
 ghost use Rattle.index_model.specs.Cells.{channelCells, flag, rowOf};
-ghost use Rattle.index_row.specs.Row.{listed, Bounded, rowOrNone};
+ghost use Rattle.index_row.specs.Row.{listed, AllBounded, rowOrNone};
 use header::Header;
 use record::HeaderAnswer;
 use totals::Total;
@@ -45,19 +45,20 @@ fn flag_cell(bit: u64) -> u32
 
 // The cells of a channel (1 to 4) that has so many samples.
 fn channel_cells(totals: [Total; 4], channel: usize, count: usize) -> ChannelCells
-    requires { ⌜ (1 ≤ channel) × (channel ≤ 4) × Bounded count (totalAt totals channel) ⌝ }
+    requires { ⌜ (1 ≤ channel) × (channel ≤ 4) × AllBounded count totals ⌝ }
     ensures { λ r. ⌜ listed r ≡ channelCells count (totalAt totals channel) ⌝ }
 {
     let at = channel - 1;
     let total = totals[at];
-    let sum = total.sum + (SUM_OFFSET * count) as i64;
-    let least = LEAST_OFFSET - total.least as i64;
-    let greatest = total.greatest as i64 + GREATEST_OFFSET;
+    let sum = (total.sum + (SUM_OFFSET * count) as i64) as u32;
+    let squares = total.squares as u32;
+    let least = (LEAST_OFFSET - total.least as i64) as u32;
+    let greatest = (total.greatest as i64 + GREATEST_OFFSET) as u32;
     ChannelCells {
-        sum: sum as u32,
-        squares: total.squares as u32,
-        least: least as u32,
-        greatest: greatest as u32,
+        sum,
+        squares,
+        least,
+        greatest,
     }
 }
 

@@ -23,14 +23,17 @@ loop-holds c = (search needs, search needs, search needs, refl)
 mul-at : tie.Need-mul-at Inv-loop μ-loop
 mul-at c = search needs
 
+add-row-inside : tie.Need-add-row-inside Inv-loop μ-loop
+add-row-inside c = search needs
+
 mul-row-inside : tie.Need-mul-row-inside Inv-loop μ-loop
 mul-row-inside c = search needs
 
 shared-slice-read-row-inside : tie.Need-shared-slice-read-row-inside Inv-loop μ-loop
 shared-slice-read-row-inside c = search needs
 
-add-row-inside : tie.Need-add-row-inside Inv-loop μ-loop
-add-row-inside c = search needs
+add-row-inside-2 : tie.Need-add-row-inside-2 Inv-loop μ-loop
+add-row-inside-2 c = search needs
 
 mul-row-inside-2 : tie.Need-mul-row-inside-2 Inv-loop μ-loop
 mul-row-inside-2 c = search needs
@@ -66,9 +69,10 @@ rows-inside-spec =
     μ-loop
     loop-holds
     mul-at
+    add-row-inside
     mul-row-inside
     shared-slice-read-row-inside
-    add-row-inside
+    add-row-inside-2
     mul-row-inside-2
     shared-slice-read-row-inside-2
     row-inside-requires

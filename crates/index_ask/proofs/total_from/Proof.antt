@@ -1,5 +1,5 @@
 -- `index_ask::total_from` meets its contract. Assumes nothing.
-use mathlib.Core.Path.{_≡_, _∙_}
+use mathlib.Core.Path.{_∙_}
 use mir.Syntax.{w8, w64}
 use mir.ValLaws.{toZ-ofZ}
 use Rattle.index_ask.proofs.Decoding.{none-read, some-read}

@@ -9,7 +9,7 @@ wide-requires : tie.Need-wide-requires
 wide-requires c κs = search needs
 
 returns : tie.Need-returns
-returns c = λ t. not (eqb (c .before .args .held) 0) && eqb (c .wide .ensures t) (c .before .args .second)
+returns c = λ t. not (eqb (c .before .args .held) 0) && eqb (c .wide .ensures .0 t) (c .before .args .second)
 
 pub is-of-spec : {M : Type 1} → statement M
 is-of-spec = tie.close (tie.spec wide-requires returns)

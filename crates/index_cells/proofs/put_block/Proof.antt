@@ -1,5 +1,5 @@
 -- `index_cells::put_block` meets its contract. Assumes nothing.
-use mathlib.Core.Path.{_≡_, ap, _∙_}
+use mathlib.Core.Path.{ap, _∙_}
 use Rattle.index_model.specs.Cells.{withBlock}
 use Rattle.index_cells.proofs.Parts.{part-put, held-put, no-put}
 use borrow.Author.Needs.{needs}

@@ -12,7 +12,8 @@ use Rattle.record.proofs.Accepted.{record-facts, stretch-inside}
 use Rattle.totals.specs.declared.Total.{Total}
 use Rattle.totals.specs.Total.{totalsOf}
 use Rattle.index_model.specs.Records.{sampleCount, stretchOf}
-use Rattle.index_row.proofs.Samples.{AllBounded, totals-bounded}
+use Rattle.index_row.specs.Row.{AllBounded}
+use Rattle.index_row.proofs.Samples.{totals-bounded}
 use Rattle.index_row.proofs.Row.{row-made}
 use borrow.Author.Needs.{needs}
 use Rattle.index_row.proofs.accepted_row.Statement.{statement}
@@ -64,16 +65,16 @@ cast-second c =
     record { fits = omega (arith, ap (λ (h : Header). h .«time_tag_ms») (s .pre .1), record-facts (now (s .args .bytes)) (s .pre .0) .tag) }
 
 channel-cells-requires : tie.Need-channel-cells-requires
-channel-cells-requires c κs = (omega arith, omega arith, bounded (c .before .before .before) .0)
+channel-cells-requires c κs = (omega arith, omega arith, bounded (c .before .before .before))
 
 channel-cells-requires-2 : tie.Need-channel-cells-requires-2
-channel-cells-requires-2 c κs = (omega arith, omega arith, bounded (c .before .before .before .before) .1)
+channel-cells-requires-2 c κs = (omega arith, omega arith, bounded (c .before .before .before .before))
 
 channel-cells-requires-3 : tie.Need-channel-cells-requires-3
-channel-cells-requires-3 c κs = (omega arith, omega arith, bounded (c .before .before .before .before .before) .2)
+channel-cells-requires-3 c κs = (omega arith, omega arith, bounded (c .before .before .before .before .before))
 
 channel-cells-requires-4 : tie.Need-channel-cells-requires-4
-channel-cells-requires-4 c κs = (omega arith, omega arith, bounded (c .before .before .before .before .before .before) .3)
+channel-cells-requires-4 c κs = (omega arith, omega arith, bounded (c .before .before .before .before .before .before))
 
 row-from-requires : tie.Need-row-from-requires
 row-from-requires c κs = search needs
