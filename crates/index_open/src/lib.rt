@@ -1,5 +1,5 @@
-// Opening the index of seconds, 01's book, and what its value decides without a look at any cell: 13 to 17. Every public function here
-// takes any values; a refusal is 01's number, and 0 is none.
+// Opening the index of seconds, 01's book, and what its value decides without a look at any cell: 13 to 17. Every public function
+// here takes any values; a refusal is 01's number, and 0 is none.
 ghost use mathlib.Core.Path.{_≡_};
 ghost use mathlib.Core.List.{[], _∷_};
 ghost use Prim.Native.Nat.{_+_, _*_, _≤_};

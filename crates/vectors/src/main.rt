@@ -1,5 +1,7 @@
 // 01's "Values worked by hand" that are not marked P, run on the library: each line says what was asked and the refusal number,
 // 0 for none. Those marked P are proved in crate `worked`.
+use index_model::Opening;
+use index_open::OpenAnswer;
 use libc::STDOUT_FILENO;
 
 // A word of the record, counted from 1, gets its value.
@@ -49,10 +51,45 @@ fn date_refusal(date: u16) -> u8 {
     refusal_of(&bytes)
 }
 
+// At 200 samples a second two records fill a second: the refusals of the first, the second and the third that are put.
+fn print_puts(o: Opening, rows: &mut [u32; 60], seconds: &mut [u32; 20]) {
+    let mut bytes = lister_case();
+    print_line(
+        b"record 1 of a second: ",
+        index::put(o, &bytes, rows, seconds),
+    );
+    set_word(&mut bytes, 2, 2);
+    print_line(
+        b"record 2 of the second: ",
+        put_again(o, &bytes, rows, seconds),
+    );
+    set_word(&mut bytes, 2, 3);
+    print_line(
+        b"record 3 of the second: ",
+        put_again(o, &bytes, rows, seconds),
+    );
+}
+
+fn put_again(o: Opening, bytes: &[u8; 780], rows: &mut [u32; 60], seconds: &mut [u32; 20]) -> u8 {
+    index::put(o, bytes, rows, seconds)
+}
+
+// A book of the seconds from noon on, one second long, for the records 1 to 3.
+fn fill_a_second() {
+    let pattern = lister_case();
+    let mut rows = [7u32; 60];
+    let mut seconds = [7u32; 20];
+    match index_open::open(&pattern, 43_200, 1, 3, &mut rows, &mut seconds) {
+        OpenAnswer::Opened(o) => print_puts(o, &mut rows, &mut seconds),
+        OpenAnswer::Refused(n) => print_line(b"opening refused: ", n),
+    }
+}
+
 fn main() {
     let bytes = lister_case();
     print_line(b"the lister's case: ", record::accept(&bytes));
     print_line(b"79 bytes: ", record::accept(&bytes[0..79]));
     print_line(b"day 366 of year 84: ", date_refusal(84 * 512 + 366));
     print_line(b"day 367 of year 84: ", date_refusal(84 * 512 + 367));
+    fill_a_second();
 }
