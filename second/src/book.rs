@@ -1,0 +1,149 @@
+//! 01 "The book" and "The ledger": records held by number, every answer worked out from nothing.
+
+use crate::record::{rate_of, read_header, Header};
+use crate::samples::{channels, total, Total};
+use std::collections::BTreeMap;
+
+/// What opening returns: the limits given and the pattern's values that 15 compares.
+#[derive(Clone, Debug, PartialEq, Eq)]
+pub struct Opening {
+    pub first_second: u64,
+    pub count: u64,
+    pub highest: u64,
+    pub rate: u64,
+    pub year: u64,
+    pub day: u64,
+    pub tape: u64,
+    pub spacecraft: u64,
+    pub spc: u64,
+}
+
+#[derive(Clone, Debug, Default, PartialEq, Eq)]
+pub struct SecondTotals {
+    pub records: u64,
+    pub origins: u64,
+    pub errors: u64,
+    pub channels: [Total; 4],
+    pub kept: bool,
+}
+
+#[derive(Clone, Debug, Default, PartialEq, Eq)]
+pub struct Ledger {
+    pub records: BTreeMap<u16, Vec<u8>>,
+}
+
+/// 13, then 14.
+fn judge(o: &Opening, row_cells_len: usize, second_cells_len: usize) -> Result<(), u8> {
+    let limits = (1..=65_535).contains(&o.highest)
+        && (1..=86_400).contains(&o.count)
+        && o.first_second <= 86_400 - o.count;
+    let pattern = rate_of(o.rate).is_some() && o.tape != 0 && o.year <= 99 && o.day != 0 && o.day <= 366;
+    if !limits || !pattern {
+        return Err(13);
+    }
+    if (row_cells_len as u64) < 20 * o.highest || (second_cells_len as u64) < 20 * o.count {
+        return Err(14);
+    }
+    Ok(())
+}
+
+pub fn open(
+    pattern: &[u8],
+    first_second: u64,
+    count: u64,
+    highest: u64,
+    row_cells_len: usize,
+    second_cells_len: usize,
+) -> Result<Opening, u8> {
+    let h = read_header(pattern)?;
+    let opening = Opening {
+        first_second,
+        count,
+        highest,
+        rate: h.sample_rate_hz,
+        year: h.year,
+        day: h.day,
+        tape: h.tape_number,
+        spacecraft: h.spacecraft,
+        spc: h.spc,
+    };
+    judge(&opening, row_cells_len, second_cells_len)?;
+    Ok(opening)
+}
+
+impl Opening {
+    fn same_reel(&self, h: &Header) -> bool {
+        (self.rate, self.year, self.day) == (h.sample_rate_hz, h.year, h.day)
+            && (self.tape, self.spacecraft, self.spc) == (h.tape_number, h.spacecraft, h.spc)
+    }
+
+    fn window(&self, second: u64) -> Result<(), u8> {
+        let window = self.first_second..self.first_second + self.count;
+        if window.contains(&second) { Ok(()) } else { Err(17) }
+    }
+
+    fn number(&self, number: u64) -> Result<u16, u8> {
+        if (1..=self.highest).contains(&number) { u16::try_from(number).map_err(|_| 16) } else { Err(16) }
+    }
+
+    fn full(&self) -> u64 {
+        rate_of(self.rate).map_or(0, |rate| rate.records_a_second)
+    }
+}
+
+impl Ledger {
+    /// The held records of a second: number, header, bytes.
+    fn of_second(&self, second: u64) -> Vec<(u16, Header, &[u8])> {
+        self.records
+            .iter()
+            .filter_map(|(&number, bytes)| Some((number, read_header(bytes).ok()?, bytes.as_slice())))
+            .filter(|(_, h, _)| h.time_tag_ms / 1000 == second)
+            .collect()
+    }
+
+    pub fn put(&mut self, o: &Opening, record: &[u8], row_cells_len: usize, second_cells_len: usize) -> Result<(), u8> {
+        let h = read_header(record)?;
+        judge(o, row_cells_len, second_cells_len)?;
+        if !o.same_reel(&h) {
+            return Err(15);
+        }
+        let number = o.number(h.record_number)?;
+        let second = h.time_tag_ms / 1000;
+        o.window(second)?;
+        let others = self.of_second(second).iter().filter(|held| held.0 != number).count();
+        if others as u64 >= o.full() {
+            return Err(18);
+        }
+        self.records.insert(number, record.to_vec());
+        Ok(())
+    }
+
+    pub fn take_out(&mut self, o: &Opening, number: u64, row_cells_len: usize, second_cells_len: usize) -> Result<(), u8> {
+        judge(o, row_cells_len, second_cells_len)?;
+        let number = o.number(number)?;
+        self.records.remove(&number).map(|_| ()).ok_or(19)
+    }
+
+    pub fn ask(&self, o: &Opening, second: u64, row_cells_len: usize, second_cells_len: usize) -> Result<SecondTotals, u8> {
+        judge(o, row_cells_len, second_cells_len)?;
+        o.window(second)?;
+        let held = self.of_second(second);
+        let mut samples: [Vec<i8>; 4] = Default::default();
+        for (_, _, bytes) in &held {
+            for (all, more) in samples.iter_mut().zip(channels(bytes)?) {
+                all.extend(more);
+            }
+        }
+        let records = held.len() as u64;
+        let origins = held.iter().filter(|(_, h, _)| h.clock_origin == 1).count() as u64;
+        let errors = held.iter().filter(|(_, h, _)| h.copy_error == 1).count() as u64;
+        let kept = records == o.full() && origins >= 1 && errors == 0;
+        Ok(SecondTotals { records, origins, errors, channels: samples.map(|s| total(&s)), kept })
+    }
+
+    /// The ledger's book test: yes, but for 13 and 14.
+    pub fn book_test(&self, o: &Opening, row_cells_len: usize, second_cells_len: usize) -> Result<bool, u8> {
+        judge(o, row_cells_len, second_cells_len)?;
+        Ok(true)
+    }
+}

@@ -1,0 +1,88 @@
+//! 01 "The record", samples, times and phases; "The book", the totals and means of samples.
+
+use crate::record::{read_header, record_rate};
+
+pub fn read_samples(bytes: &[u8], channels: [&mut [i8]; 4]) -> Result<(), u8> {
+    let count = record_rate(bytes)?.samples as usize;
+    if channels.iter().any(|channel| channel.len() < count) {
+        return Err(12);
+    }
+    for (c, channel) in channels.into_iter().enumerate() {
+        for k in 0..count {
+            channel[k] = bytes[80 + 4 * k + c] as i8;
+        }
+    }
+    Ok(())
+}
+
+pub fn write_samples(bytes: &mut [u8], channels: [&[i8]; 4]) -> Result<(), u8> {
+    let count = record_rate(bytes)?.samples as usize;
+    if channels.iter().any(|channel| channel.len() < count) {
+        return Err(12);
+    }
+    for (c, channel) in channels.into_iter().enumerate() {
+        for k in 0..count {
+            bytes[80 + 4 * k + c] = channel[k] as u8;
+        }
+    }
+    Ok(())
+}
+
+/// In microseconds of the day.
+pub fn sample_time(bytes: &[u8], k: u64) -> Result<u64, u8> {
+    let rate = record_rate(bytes)?;
+    if k >= rate.samples {
+        return Err(12);
+    }
+    Ok(1000 * read_header(bytes)?.time_tag_ms + k * (1_000_000 / rate.hz))
+}
+
+/// Both phases in cycles.
+pub fn phases(bytes: &[u8]) -> Result<(f64, f64), u8> {
+    let h = read_header(bytes)?;
+    Ok((h.phase_1 as f64 / 256.0, h.phase_2 as f64 / 256.0))
+}
+
+#[derive(Clone, Copy, Debug, Default, PartialEq, Eq)]
+pub struct Total {
+    pub sum: i64,
+    pub squares: u64,
+    pub least: i8,
+    pub greatest: i8,
+}
+
+/// The total of some samples, 0 throughout for none.
+pub fn total(samples: &[i8]) -> Total {
+    Total {
+        sum: samples.iter().map(|&s| i64::from(s)).sum(),
+        squares: samples.iter().map(|&s| (i64::from(s) * i64::from(s)) as u64).sum(),
+        least: samples.iter().copied().min().unwrap_or(0),
+        greatest: samples.iter().copied().max().unwrap_or(0),
+    }
+}
+
+/// The samples of each channel, in order.
+pub fn channels(bytes: &[u8]) -> Result<[Vec<i8>; 4], u8> {
+    let count = record_rate(bytes)?.samples as usize;
+    let mut out = [(); 4].map(|_| vec![0; count]);
+    read_samples(bytes, out.each_mut().map(|channel| channel.as_mut_slice()))?;
+    Ok(out)
+}
+
+pub fn totals(bytes: &[u8]) -> Result<[Total; 4], u8> {
+    Ok(channels(bytes)?.map(|samples| total(&samples)))
+}
+
+#[derive(Clone, Copy, Debug, Default, PartialEq)]
+pub struct Means {
+    pub mean: f64,
+    pub mean_square: f64,
+}
+
+/// The means of a total over `count` samples.
+pub fn means(total: Total, count: u64) -> Means {
+    if count == 0 {
+        return Means::default();
+    }
+    Means { mean: total.sum as f64 / count as f64, mean_square: total.squares as f64 / count as f64 }
+}
