@@ -1,4 +1,5 @@
--- `index_ask::rows_inside` meets its contract. Assumes nothing.
+-- `index_ask::rows_inside` meets its contract. The loop's invariant: what is said is said of the first i rows.
+-- Assumes nothing.
 use Prim.Native.Nat.{_-_, _*_, _≤_}
 use mathlib.Core.Path.{_≡_, refl, ap, _∙_}
 use native.Mathlib.Omega.{arith}

@@ -1,4 +1,5 @@
--- `index_ask::same_cells` meets its contract. Assumes nothing.
+-- `index_ask::same_cells` meets its contract. The loop's invariant: what is said is said of the first j cells.
+-- Assumes nothing.
 use Prim.Native.Nat.{_-_, _≤_}
 use mathlib.Core.Path.{_≡_, ap, _∙_}
 use native.Mathlib.Omega.{arith}

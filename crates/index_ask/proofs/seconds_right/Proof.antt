@@ -1,4 +1,5 @@
--- `index_ask::seconds_right` meets its contract. Assumes nothing.
+-- `index_ask::seconds_right` meets its contract. The loop's invariant: what is said is said of the first k seconds.
+-- Assumes nothing.
 use Prim.Native.Nat.{_-_, _≤_}
 use mathlib.Core.Path.{_≡_, refl, ap, _∙_}
 use native.Mathlib.Omega.{arith}

@@ -1,4 +1,5 @@
--- `index_cells::copy_block` meets its contract. Assumes nothing.
+-- `index_cells::copy_block` meets its contract. The loop's invariant: the first j cells of the part are those of the block.
+-- Assumes nothing.
 use mathlib.Core.Path.{_≡_, refl, sym, _∙_}
 use Prim.Native.Nat.{ℕ, _-_, _≤_}
 use native.Mathlib.Omega.{arith}

@@ -1,4 +1,5 @@
--- `index_cells::from_rows` meets its contract. Assumes nothing.
+-- `index_cells::from_rows` meets its contract. The loop's invariant: the cells are those that the first i rows give.
+-- Assumes nothing.
 use mathlib.Core.Path.{_≡_, ap, _∙_}
 use mathlib.Core.Bool.{cond}
 use Prim.Native.Nat.{_-_, _*_, _≤_}

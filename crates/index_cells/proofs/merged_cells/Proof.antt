@@ -1,4 +1,5 @@
--- `index_cells::merged_cells` meets its contract. Assumes nothing.
+-- `index_cells::merged_cells` meets its contract. The loop's invariant: the first j cells are merged, the others are still those of the second.
+-- Assumes nothing.
 use mathlib.Core.Path.{_≡_, ap, _∙_}
 use Prim.Native.Nat.{ℕ, _-_, _≤_}
 use native.Mathlib.Omega.{arith}

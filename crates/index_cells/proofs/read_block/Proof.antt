@@ -1,4 +1,5 @@
--- `index_cells::read_block` meets its contract. Assumes nothing.
+-- `index_cells::read_block` meets its contract. The loop's invariant: the first j cells of the block are read.
+-- Assumes nothing.
 use mathlib.Core.Path.{_≡_, refl, sym, _∙_}
 use Prim.Native.Nat.{_+_, _-_, _*_, _≤_}
 use native.Mathlib.Omega.{arith}
