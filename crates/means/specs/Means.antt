@@ -25,7 +25,7 @@ heldExactly total count = leb (natAbs (total .sum)) exactLimit && leb (total .sq
 abbrev pub noMeans : Means
 noMeans = record { mean = fin false 0 (pos 0); «mean_square» = fin false 0 (pos 0) }
 
--- both 0 for no samples; and for numbers that are not held exactly, which no second of a book has
+-- both 0 for no samples; and for numbers that are not held exactly, which no second of an index has
 unfoldable pub meansOf : Total → ℕ → Means
 meansOf total count =
     cond (eqb count 0 || not (heldExactly total count)) noMeans

@@ -37,7 +37,7 @@ fn no_means() -> Means
     }
 }
 
-// Both are 0 for no samples. For numbers beyond 2^53, which no second of a book has, both are 0 too.
+// Both are 0 for no samples. For numbers beyond 2^53, which no second of an index has, both are 0 too.
 pub fn means_of(total: Total, count: u64) -> Means
     ensures { λ r. ⌜ r ≡ meansOf total count ⌝ }
 {

@@ -74,7 +74,7 @@ fn put_again(o: Opening, bytes: &[u8; 780], rows: &mut [u32; 60], seconds: &mut 
     index::put(o, bytes, rows, seconds)
 }
 
-// A book of the seconds from noon on, one second long, for the records 1 to 3.
+// An index of one second, from noon on, for the records 1 to 3.
 fn fill_a_second() {
     let pattern = lister_case();
     let mut rows = [7u32; 60];
