@@ -1,5 +1,6 @@
 -- The number and the values of 01 for each case of the code's answers.
 use mathlib.Core.Bool.{Bool, false}
+use lib.Dec.{eqb}
 use Rattle.record.specs.Answer.{Answer, accepted, refused}
 use Rattle.index_model.specs.Second.{SecondTotals}
 use Rattle.index_ask.specs.declared.SecondAnswer.{SecondAnswer}
@@ -19,6 +20,7 @@ shownSecond r =
             channels = r .channels;
             kept = r .kept;
           };
+      given = eqb (r .refusal) 0;
     }
 
 abbrev pub shownTest : TestAnswer → Answer Bool

@@ -136,6 +136,7 @@ fn second_from(o: Opening, cells: [u32; 20]) -> SecondAnswer
 
 // Beside a refusal every value is 0.
 fn no_second(refusal: u8) -> SecondAnswer
+    requires { ⌜ 1 ≤ refusal ⌝ }
     ensures { λ r. ⌜ shownSecond r ≡ refused noSecond refusal ⌝ }
 {
     let none = Total {

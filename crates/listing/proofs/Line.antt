@@ -17,7 +17,7 @@ use Rattle.fields.proofs.Tables.{fit-at}
 use Rattle.header.specs.Format.{fields}
 use Rattle.header.specs.declared.Header.{Header}
 use Rattle.header.specs.Header.{headerOf}
-use Rattle.record.specs.Answer.{Answer, unless}
+use Rattle.record.specs.Answer.{Answer, accepted, refused, unless}
 use Rattle.record.specs.FrequencyRate.{rateUnits, headerRate, rateAnswer}
 use Rattle.record.specs.Record.{recordRefusal}
 use Rattle.record.proofs.Accepted.{record-facts, digits-small, power-small, values-small}
@@ -44,7 +44,7 @@ passed c f e = ap (recordLine (c .number) (c .«first_us») (c .origin) (c .«fr
 unless-value : {A : Type 0} (P : A → Type 0) (n : ℕ) (empty v : A) → P empty → P v → P (unless n empty v .value)
 unless-value {A} P n empty v p q = by-test (eqb n 0)
   where
-    by-test : (t : Bool) → P (Answer.value (cond t (record { number = 0; value = v }) (record { number = n; value = empty })))
+    by-test : (t : Bool) → P (Answer.value (cond t (accepted v) (refused empty n)))
     by-test true = q
     by-test false = p
 

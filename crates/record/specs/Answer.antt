@@ -1,18 +1,20 @@
 -- What a call answers. 01: "Beside a refusal's number any other part of an answer is 0 or empty".
 use Prim.Native.Nat.{ℕ}
-use mathlib.Core.Bool.{cond}
+use mathlib.Core.Bool.{Bool, true, false, cond}
 use lib.Dec.{eqb}
 
--- the refusal number of 01, 0 for none, and the value
+-- the refusal number of 01, 0 for none, the value, and whether a value is given: a refusal that bore the number 0 would not pass
+-- for the value 0
 pub record Answer (A : Type 0) : Type 0 where
   pub number : ℕ
   pub value : A
+  pub given : Bool
 
 abbrev pub accepted : {A : Type 0} → A → Answer A
-accepted v = record { number = 0; value = v }
+accepted v = record { number = 0; value = v; given = true }
 
 abbrev pub refused : {A : Type 0} → A → ℕ → Answer A
-refused empty n = record { number = n; value = empty }
+refused empty n = record { number = n; value = empty; given = false }
 
 -- the value where n is no refusal, else the refusal beside what is empty
 abbrev pub unless : {A : Type 0} → ℕ → A → A → Answer A
