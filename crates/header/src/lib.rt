@@ -3,7 +3,7 @@ ghost use mathlib.Core.Path.{_≡_};
 ghost use Rattle.fields.specs.Field.{binaryFits, decimalFits};
 ghost use Rattle.fields.specs.Table.{writeAll, allDigitsGood, allFit};
 ghost use Rattle.header.specs.Format.{fields};
-ghost use Rattle.header.specs.Header.{values, headerOf};
+ghost use Rattle.header.specs.Header.{values, named, headerOf};
 use fields::Field;
 
 // Each field: its word, its first bit, its width in bits, and whether the bits are decimal digits.
@@ -256,7 +256,7 @@ pub fn read_fields(bytes: &[u8]) -> Header
 }
 
 // The values of a header, in the table's order.
-fn listed(h: Header) -> [u64; 46]
+pub fn listed(h: Header) -> [u64; 46]
     ensures { λ r. ⌜ r ≡ values h ⌝ }
 {
     [
@@ -307,6 +307,60 @@ fn listed(h: Header) -> [u64; 46]
         h.register_1,
         h.register_2,
     ]
+}
+
+// The header that the values make, given in the table's order.
+pub fn named(v: [u64; 46]) -> Header
+    ensures { λ r. ⌜ r ≡ named v ⌝ }
+{
+    Header {
+        clock_origin: v[0],
+        session_start: v[1],
+        copy_error: v[2],
+        conversion: v[3],
+        compression: v[4],
+        tape_number: v[5],
+        record_number: v[6],
+        length_words: v[7],
+        prime_fea: v[8],
+        secondary_fea: v[9],
+        spacecraft: v[10],
+        spc: v[11],
+        year: v[12],
+        day: v[13],
+        time_tag_ms: v[14],
+        predict_0: v[15],
+        predict_1: v[16],
+        predict_2: v[17],
+        predict_3: v[18],
+        predict_4: v[19],
+        predict_5: v[20],
+        predict_6: v[21],
+        predict_7: v[22],
+        predict_8: v[23],
+        predict_9: v[24],
+        status: v[25],
+        readback_uhz: v[26],
+        readback_tag_ms: v[27],
+        calculated_uhz: v[28],
+        filter: v[29],
+        update_tag_ms: v[30],
+        rate_digits: v[31],
+        rate_power: v[32],
+        rate_sign: v[33],
+        phase_1: v[34],
+        phase_2: v[35],
+        selector_1: v[36],
+        selector_2: v[37],
+        selector_3: v[38],
+        selector_4: v[39],
+        counter_tag_ms: v[40],
+        sample_rate_hz: v[41],
+        sync_word: v[42],
+        word_39: v[43],
+        register_1: v[44],
+        register_2: v[45],
+    }
 }
 
 // The values, in the table's order, go into their fields.

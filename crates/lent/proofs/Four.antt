@@ -1,0 +1,10 @@
+-- An array of four is the list of its four entries. Assumes nothing.
+use Prim.Native.Nat.{ℕ}
+use mathlib.Core.Path.{_≡_, refl, ap, sym}
+use mathlib.Core.List.{List, [], _∷_}
+use lib.ListN.{getD, length}
+use Rattle.lists.proofs.Fill.{tab-ext}
+
+pub of-four : {A B : Type 0} (d : A) (f : List A → List B) (l : List A) → length l ≡ 4
+    → f (getD l 0 d ∷ getD l 1 d ∷ getD l 2 d ∷ getD l 3 d ∷ []) ≡ f l
+of-four d f l e = ap f (sym (tab-ext (λ (i : ℕ). getD l i d) 4 d l e (λ i h. refl)))

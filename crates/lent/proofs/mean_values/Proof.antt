@@ -1,0 +1,34 @@
+-- `lent::mean_values` meets its contract. Assumes nothing.
+use lib.Ieee.{nan}
+use Rattle.lent.specs.Values.{meanValues}
+use Rattle.lent.proofs.Four.{of-four}
+use borrow.Author.Needs.{needs}
+use Rattle.lent.proofs.mean_values.Statement.{statement}
+use Rattle.lent.proofs.mean_values.Tie as tie
+
+array-copy-out-one : tie.Need-array-copy-out-one
+array-copy-out-one c = search needs
+
+array-copy-out-two : tie.Need-array-copy-out-two
+array-copy-out-two c = search needs
+
+array-copy-out-three : tie.Need-array-copy-out-three
+array-copy-out-three c = search needs
+
+array-copy-out-four : tie.Need-array-copy-out-four
+array-copy-out-four c = search needs
+
+returns : tie.Need-returns
+returns c =
+    let a = c .before .before .before .before in
+    of-four (record { mean = nan; «mean_square» = nan }) meanValues (a .args .t1) (a .good .0 .1 .0 .1)
+
+pub mean-values-spec : {M : Type 1} → statement M
+mean-values-spec =
+    tie.close
+    (tie.spec
+    array-copy-out-one
+    array-copy-out-two
+    array-copy-out-three
+    array-copy-out-four
+    returns)

@@ -1,0 +1,47 @@
+-- `odr::odr_refused_line` meets its contract. Assumes nothing.
+use mathlib.Core.Path.{ap}
+use Rattle.text.specs.Text.{Shown, shown}
+use Rattle.lent.specs.Lent.{nextOr}
+use Rattle.odr.proofs.Answers.{in-case}
+use borrow.Author.Needs.{needs}
+use Rattle.odr.proofs.odr_refused_line.Statement.{statement}
+use Rattle.odr.proofs.odr_refused_line.Tie as tie
+
+put-refused-line-requires : tie.Need-put-refused-line-requires
+put-refused-line-requires c κs = search needs
+
+enum-known-at : tie.Need-enum-known-at
+enum-known-at c = search needs
+
+enum-told : tie.Need-enum-told
+enum-told c = search needs
+
+same-length : tie.Need-same-length
+same-length c = search needs
+
+returns : tie.Need-returns
+returns c =
+    let call = c .before .before .before .before .before in
+    let p = in-case shown (call .put-refused-line .ensures .0) (c .before .at .given .1) in
+    (ap (λ (s : Shown). s .refusal) p, (call .put-refused-line .ensures .1, ap (nextOr (call .before .before .before .args .next .now)) p))
+
+same-length-2 : tie.Need-same-length-2
+same-length-2 c = search needs
+
+returns-2 : tie.Need-returns-2
+returns-2 c =
+    let call = c .before .before .before .before in
+    let p = in-case shown (call .put-refused-line .ensures .0) (c .enum-told .given .1) in
+    (ap (λ (s : Shown). s .refusal) p, (call .put-refused-line .ensures .1, ap (nextOr (call .before .before .before .args .next .now)) p))
+
+pub odr-refused-line-spec : {M : Type 1} → statement M
+odr-refused-line-spec =
+    tie.close
+    (tie.spec
+    put-refused-line-requires
+    enum-known-at
+    enum-told
+    same-length
+    returns
+    same-length-2
+    returns-2)
