@@ -14,7 +14,8 @@ use Rattle.lists.proofs.Fill.{getD-tab}
 use Rattle.lists.proofs.Truth.{and-true}
 use Rattle.totals.specs.declared.Total.{Total}
 use Rattle.totals.specs.Total.{noTotal, totalOf, totalsOf}
-use Rattle.index_model.specs.Records.{secondOf, hasOrigin, hasError, sampleCount, stretchOf, channelSamples}
+use Rattle.index_model.specs.Records.{secondOf, hasOrigin, hasError, channelSamples}
+use Rattle.record.specs.Stretch.{sampleCount, stretchOf}
 use Rattle.index_model.specs.Cells.{width, channelCells, allChannelCells, flag, rowOf, noRow, isGreatest}
 
 -- the row of what a number has

@@ -17,7 +17,8 @@ use Rattle.record.proofs.Accepted.{record-facts}
 use Rattle.totals.proofs.Samples.{Bytes, samples-bytes}
 use Rattle.totals.proofs.Sums.{squares-bound}
 use Rattle.index_model.specs.declared.Opening.{Opening}
-use Rattle.index_model.specs.Records.{secondOf, hasOrigin, hasError, sampleCount, stretchOf, channelSamples}
+use Rattle.index_model.specs.Records.{secondOf, hasOrigin, hasError, channelSamples}
+use Rattle.record.specs.Stretch.{lineOf, sampleCount, stretchOf}
 use Rattle.index_model.specs.Cells.{width, flag, rowOf}
 use Rattle.index_model.specs.Opening.{inWindow}
 use Rattle.index_model.specs.Ledger.{Ledger}
@@ -50,6 +51,7 @@ module _ (b : List ℕ) (c : ℕ) where
   samples-signed = samples-bytes (stretchOf b) c (sampleCount b)
 
 pub count-is : {o : Opening} {b : List ℕ} → Sound o b → sampleCount b ≡ perRecord o
+unfolding lineOf
 count-is sound = ap (λ (hz : ℕ). samplesPerRecord (rateOf hz)) (sound .rate)
 
 -- ## the row of an accepted record
@@ -60,9 +62,11 @@ flag-small false = omega arith
 
 module _ (b : List ℕ) (accepted : recordRefusal b ≡ 0) where
   pub count-some : 0 < sampleCount b
+  unfolding lineOf
   count-some = record-facts b accepted .line .some
 
   pub count-most : sampleCount b ≤ 1000
+  unfolding lineOf
   count-most = record-facts b accepted .line .most
 
   -- the four cells of a channel (1 to 4)

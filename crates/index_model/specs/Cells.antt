@@ -15,7 +15,8 @@ use lib.ListN.{getD, take, drop}
 use Rattle.lists.specs.Fill.{tab}
 use Rattle.totals.specs.declared.Total.{Total}
 use Rattle.totals.specs.Total.{totalsOf}
-use Rattle.index_model.specs.Records.{secondOf, hasOrigin, hasError, sampleCount, stretchOf}
+use Rattle.index_model.specs.Records.{secondOf, hasOrigin, hasError}
+use Rattle.record.specs.Stretch.{sampleCount, stretchOf}
 
 -- cells in a row, and in a second
 abbrev pub width : ℕ

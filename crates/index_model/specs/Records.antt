@@ -1,15 +1,13 @@
 -- What the index uses of a record: its number, its second, its two flags and its samples. 01: "The record", "The book".
 -- Any bytes have these; the index asks them of accepted records only.
-use Prim.Native.Nat.{ℕ, _*_, _/_}
+use Prim.Native.Nat.{ℕ, _/_}
 use mathlib.Core.Bool.{Bool}
 use mathlib.Core.List.{List}
 use lib.Dec.{eqb}
 use lib.IntN.{ℤ}
-use lib.ListN.{take, drop}
 use Rattle.channels.specs.Sample.{samplesOf}
 use Rattle.header.specs.Header.{headerOf}
-use Rattle.rates.specs.Rates.{rateOf, samplesPerRecord}
-use Rattle.record.specs.Record.{headerBytes}
+use Rattle.record.specs.Stretch.{sampleCount, stretchOf}
 
 abbrev pub numberOf : List ℕ → ℕ
 numberOf b = headerOf b .«record_number»
@@ -23,14 +21,6 @@ hasOrigin b = eqb (headerOf b .«clock_origin») 1
 
 abbrev pub hasError : List ℕ → Bool
 hasError b = eqb (headerOf b .«copy_error») 1
-
--- its samples a channel, by its rate
-abbrev pub sampleCount : List ℕ → ℕ
-sampleCount b = samplesPerRecord (rateOf (headerOf b .«sample_rate_hz»))
-
--- its sample stretch, from byte 80
-abbrev pub stretchOf : List ℕ → List ℕ
-stretchOf b = take (4 * sampleCount b) (drop headerBytes b)
 
 -- its samples of a channel (1 to 4)
 unfoldable pub channelSamples : ℕ → List ℕ → List ℤ

@@ -11,7 +11,8 @@ use Rattle.record.proofs.Refusals.{cond-none, cond-some}
 use Rattle.totals.specs.declared.Total.{Total}
 use Rattle.totals.specs.Total.{totalsOf}
 use Rattle.totals.specs.Running.{totalAt}
-use Rattle.index_model.specs.Records.{secondOf, sampleCount, stretchOf}
+use Rattle.index_model.specs.Records.{secondOf}
+use Rattle.record.specs.Stretch.{sampleCount, stretchOf}
 use Rattle.index_model.specs.Cells.{channelCells, flag, rowOf, noRow}
 use Rattle.index_row.specs.Row.{rowOrNone}
 

@@ -6,16 +6,16 @@ use mathlib.Core.List.{List, [], _∷_}
 use lib.Dec.{eqb}
 use lib.ListN.{take, drop}
 use Rattle.bits.specs.Bits.{getBits}
-use Rattle.header.specs.Header.{headerOf}
-use Rattle.rates.specs.Rates.{rateOf, lastSampleWord}
+use Rattle.rates.specs.Rates.{lastSampleWord}
 use Rattle.record.specs.Answer.{Answer, unless}
 use Rattle.record.specs.Refusal.{_when_, first, _then_}
 use Rattle.record.specs.Record.{recordRefusal}
+use Rattle.record.specs.Stretch.{lineOf}
 use Rattle.monitor.specs.Segments.{rowOf, isNoRow, segmentAt, firstWord, wordCount}
 
 -- N of a record, by its own rate
 unfoldable pub lastSampleWordOf : List ℕ → ℕ
-lastSampleWordOf b = lastSampleWord (rateOf (headerOf b .«sample_rate_hz»))
+lastSampleWordOf b = lastSampleWord (lineOf b)
 
 -- the first byte of word w after N, w from 1
 abbrev pub monitorByte : List ℕ → ℕ → ℕ

@@ -3,3 +3,4 @@ pub mod Refusal
 pub mod Record
 pub mod FrequencyRate
 pub mod Shown
+pub mod Stretch

@@ -16,7 +16,7 @@ use Rattle.record.specs.Refusal.{_when_, first}
 use Rattle.record.specs.Record.{recordRefusal}
 use Rattle.record.proofs.Refusals.{then-zero}
 use Rattle.record.proofs.Accepted.{stretch-inside}
-use Rattle.samples.specs.Stretch.{lineOf, sampleCount}
+use Rattle.record.specs.Stretch.{lineOf, sampleCount}
 use Rattle.samples.specs.InOut.{fewer, samplesRefusal}
 
 -- any bytes: at most 1,000 samples a channel

@@ -13,7 +13,7 @@ use Rattle.header.specs.declared.Header.{Header}
 use Rattle.header.specs.Header.{headerOf}
 use Rattle.rates.specs.Rates.{rateOf}
 use Rattle.record.specs.Record.{recordRefusal}
-use Rattle.samples.specs.Stretch.{lineOf, sampleCount, stretchOf, withStretch}
+use Rattle.record.specs.Stretch.{lineOf, sampleCount, stretchOf, withStretch}
 use Rattle.samples.proofs.FirstBytes.{same-header, same-refusal}
 
 module _ (b : List ℕ) (inside : 80 + 4 * sampleCount b ≤ length b) where

@@ -15,7 +15,7 @@ use Rattle.lists.specs.Fill.{over}
 use Rattle.lists.proofs.Fill.{length-over}
 use Rattle.channels.specs.Sample.{sampleOf, channelRoom, interleaved, setRoom, multiplexed}
 use Rattle.record.proofs.Refusals.{cond-none, cond-some}
-use Rattle.samples.specs.Stretch.{sampleCount, stretchOf, withStretch}
+use Rattle.record.specs.Stretch.{sampleCount, stretchOf, withStretch}
 use Rattle.samples.specs.InOut.{bufferAfter, recordAfter}
 
 -- there is no refusal, or there is one

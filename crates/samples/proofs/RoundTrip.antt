@@ -8,7 +8,7 @@ use lib.ListN.{length, getD, take, drop}
 use lib.Signed.{mag}
 use Rattle.header.specs.Header.{headerOf}
 use Rattle.channels.specs.Sample.{channelOf}
-use Rattle.samples.specs.Stretch.{sampleCount}
+use Rattle.record.specs.Stretch.{sampleCount}
 use Rattle.samples.specs.InOut.{samplesRefusal, bufferAfter, recordAfter}
 use Rattle.samples.proofs.Trips.{back, written-header, written-refusal, written-samples}
 

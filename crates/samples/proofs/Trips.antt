@@ -15,7 +15,7 @@ use Rattle.channels.proofs.OutThenIn.{buffers-in}
 use Rattle.channels.proofs.InThenOut.{buffer-out}
 use Rattle.record.specs.Refusal.{_when_, first, _then_}
 use Rattle.record.specs.Record.{recordRefusal}
-use Rattle.samples.specs.Stretch.{sampleCount, stretchOf, withStretch}
+use Rattle.record.specs.Stretch.{sampleCount, stretchOf, withStretch}
 use Rattle.samples.specs.InOut.{fewer, samplesRefusal, bufferAfter, recordAfter}
 use Rattle.samples.proofs.Judged.{Room, room}
 use Rattle.samples.proofs.Part.{none-or-some, record-kept, buffer-by, record-by, buffer-length}

@@ -9,7 +9,7 @@ use Rattle.lists.specs.Fill.{over}
 use Rattle.channels.specs.Sample.{sampleOf, interleaved}
 use Rattle.record.specs.Record.{recordRefusal}
 use Rattle.record.specs.Refusal.{_when_, first, _then_}
-use Rattle.samples.specs.Stretch.{sampleCount, stretchOf, withStretch}
+use Rattle.record.specs.Stretch.{sampleCount, stretchOf, withStretch}
 
 -- one of four buffers of these lengths holds fewer than n samples
 abbrev pub fewer : ℕ → ℕ → ℕ → ℕ → ℕ → Bool

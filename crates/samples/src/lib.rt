@@ -5,7 +5,7 @@ ghost use mathlib.Core.List.{[], _∷_};
 ghost use Prim.Native.Nat.{_≤_};
 ghost use lib.ListN.{length};
 ghost use Rattle.record.specs.Refusal.{_when_, first};
-ghost use Rattle.samples.specs.Stretch.{lineOf, sampleCount};
+ghost use Rattle.record.specs.Stretch.{lineOf, sampleCount};
 ghost use Rattle.samples.specs.InOut.{fewer, samplesRefusal, bufferAfter, recordAfter};
 use rates::Rate;
 

@@ -12,7 +12,7 @@ use Rattle.rates.specs.Rates.{rateHz}
 use Rattle.record.specs.Refusal.{_when_, first}
 use Rattle.record.specs.Record.{recordRefusal, lastMs}
 use Rattle.record.proofs.Accepted.{record-facts}
-use Rattle.samples.specs.Stretch.{lineOf, sampleCount}
+use Rattle.record.specs.Stretch.{lineOf, sampleCount}
 use Rattle.samples.proofs.Judged.{count-small}
 use Rattle.record.proofs.Refusals.{then-zero}
 use Rattle.times.specs.SampleTime.{timeRefusal}

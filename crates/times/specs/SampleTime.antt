@@ -9,7 +9,7 @@ use Rattle.rates.specs.Rates.{intervalUs}
 use Rattle.record.specs.Answer.{Answer, unless}
 use Rattle.record.specs.Refusal.{_when_, first, _then_}
 use Rattle.record.specs.Record.{recordRefusal}
-use Rattle.samples.specs.Stretch.{lineOf, sampleCount}
+use Rattle.record.specs.Stretch.{lineOf, sampleCount}
 
 -- by the tag in milliseconds and the microseconds from a sample to the next
 abbrev pub timeOf : ℕ → ℕ → ℕ → ℕ

@@ -10,7 +10,7 @@ use Rattle.record.specs.Record.{recordRefusal, headerAnswer}
 use Rattle.record.specs.FrequencyRate.{rateUnits, rateAnswer}
 use Rattle.channels.specs.Sample.{signedOf}
 use Rattle.totals.specs.Total.{sumOf, squaresOf, lesser, greater, keptOf, totalOf}
-use Rattle.samples.specs.Stretch.{lineOf}
+use Rattle.record.specs.Stretch.{lineOf}
 use Rattle.times.specs.SampleTime.{timeRefusal, timeAnswer}
 use Rattle.worked.specs.Cases.{cases, given, said}
 

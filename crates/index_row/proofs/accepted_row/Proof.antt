@@ -11,7 +11,7 @@ use Rattle.rates.specs.Rates.{rateOf, samplesPerRecord}
 use Rattle.record.proofs.Accepted.{record-facts, stretch-inside}
 use Rattle.totals.specs.declared.Total.{Total}
 use Rattle.totals.specs.Total.{totalsOf}
-use Rattle.index_model.specs.Records.{sampleCount, stretchOf}
+use Rattle.record.specs.Stretch.{lineOf, sampleCount, stretchOf}
 use Rattle.index_row.specs.Row.{AllBounded}
 use Rattle.index_row.proofs.Samples.{totals-bounded}
 use Rattle.index_row.proofs.Row.{row-made}
@@ -28,11 +28,13 @@ module _ (c : tie.After-rate-of) where
   count = samplesPerRecord (c .rate-of .result)
 
   count-is : count ≡ sampleCount bytes
+  unfolding lineOf
   count-is =
       ap samplesPerRecord (c .rate-of .ensures)
       ∙ ap (λ (h : Header). samplesPerRecord (rateOf (h .«sample_rate_hz»))) (c .before .before .pre .1)
 
   few : count ≤ 1000
+  unfolding lineOf
   few = omega (arith, count-is, record-facts bytes (c .before .before .pre .0) .line .most)
 
 -- the totals
@@ -41,6 +43,7 @@ module _ (c : tie.After-record-totals) where
   totals = c .record-totals .result
 
   totals-are : totals ≡ totalsOf (stretchOf (bytes (c .before))) (sampleCount (bytes (c .before)))
+  unfolding stretchOf
   totals-are = c .record-totals .ensures ∙ (λ i. totalsOf (take (4 * count-is (c .before) i) (drop 80 (bytes (c .before)))) (count-is (c .before) i))
 
   bounded : AllBounded (count (c .before)) totals
@@ -50,6 +53,7 @@ rate-of-requires : tie.Need-rate-of-requires
 rate-of-requires c κs = search needs
 
 record-totals-requires : tie.Need-record-totals-requires
+unfolding lineOf
 record-totals-requires c κs =
     (few c, omega (arith, count-is c, stretch-inside (bytes c) (c .before .before .pre .0)))
 

@@ -4,6 +4,7 @@ use native.Mathlib.Omega.{arith}
 use denote.Ref.{now}
 use Rattle.header.specs.declared.Header.{Header}
 use Rattle.rates.specs.Rates.{rateOf, lastSampleWord}
+use Rattle.record.specs.Stretch.{lineOf}
 use Rattle.monitor.specs.Monitor.{lastSampleWordOf}
 use Rattle.monitor.proofs.Monitor.{last-sample-word-facts}
 use borrow.Author.Needs.{needs}
@@ -17,7 +18,7 @@ rate-of-requires : tie.Need-rate-of-requires
 rate-of-requires c κs = search needs
 
 returns : tie.Need-returns
-unfolding lastSampleWordOf
+unfolding lastSampleWordOf lineOf
 returns c =
     let start = c .before .before .before in
     let facts = last-sample-word-facts (now (start .args .bytes)) (start .pre) in

@@ -2,7 +2,7 @@
 use mathlib.Core.Path.{ap, _∙_}
 use Rattle.header.specs.declared.Header.{Header}
 use Rattle.rates.specs.Rates.{rateOf}
-use Rattle.samples.specs.Stretch.{lineOf}
+use Rattle.record.specs.Stretch.{lineOf}
 use borrow.Author.Needs.{needs}
 use Rattle.samples.proofs.line_of.Statement.{statement}
 use Rattle.samples.proofs.line_of.Tie as tie
