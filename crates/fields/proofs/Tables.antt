@@ -14,9 +14,9 @@ use native.Mathlib.Numerals.{add-one}
 use Rattle.lists.proofs.Truth.{left, right, both, either, holds, and-true, and-assoc}
 use Rattle.bits.specs.Bits.{bitAt}
 use Rattle.fields.specs.declared.Field.{Field}
-use Rattle.fields.specs.Field.{none, start, width, valueOf, withValue, digitsGood, decimalFits, binaryFits, Readable, readable}
+use Rattle.fields.specs.Field.{none, start, width, valueOf, withValue, digitsGood, decimalFits, binaryFits, readable}
 use Rattle.fields.specs.Table.{readAll, writeAll, allDigitsGood, allFit, apart, allApart, sound, unnamed}
-use Rattle.fields.proofs.OneField.{is-readable, length-with, value-with, value-other, with-value, read-fits, digits-with, digits-other, bit-other}
+use Rattle.fields.proofs.OneField.{length-with, value-with, value-other, with-value, read-fits, digits-with, digits-other, bit-other}
 
 -- ## the test, taken apart
 

@@ -5,7 +5,7 @@ use mathlib.Core.List.{List, [], _∷_}
 use mathlib.Core.Logic.{_⊎_}
 use lib.Dec.{leb}
 use Rattle.fields.specs.declared.Field.{Field}
-use Rattle.fields.specs.Field.{start, width, valueOf, withValue, digitsGood, decimalFits, binaryFits, readable}
+use Rattle.fields.specs.Field.{start, width, valueOf, withValue, digitsGood, readable}
 
 -- what the fields hold, in the table's order
 abbrev pub readAll : List Field → List ℕ → List ℕ

@@ -102,44 +102,27 @@ pub fn header_from(values: &[u64]) -> Header
 
 // ## Values as numbers
 
-fn channel_sums(totals: [Total; 4]) -> [i64; 4]
-    ensures { λ r. ⌜ r ≡ channelSums totals ⌝ }
-{
-    let one = totals[0];
-    let two = totals[1];
-    let three = totals[2];
-    let four = totals[3];
-    [one.sum, two.sum, three.sum, four.sum]
+// Each number of the four channels' totals, channel after channel.
+struct Columns {
+    sums: [i64; 4],
+    squares: [u64; 4],
+    least: [i8; 4],
+    greatest: [i8; 4],
 }
 
-fn channel_squares(totals: [Total; 4]) -> [u64; 4]
-    ensures { λ r. ⌜ r ≡ channelSquares totals ⌝ }
+fn split(totals: [Total; 4]) -> Columns
+    ensures { λ r. ⌜ (r .sums ≡ channelSums totals) × (r .squares ≡ channelSquares totals) × (r .least ≡ channelLeasts totals) × (r .greatest ≡ channelGreatests totals) ⌝ }
 {
     let one = totals[0];
     let two = totals[1];
     let three = totals[2];
     let four = totals[3];
-    [one.squares, two.squares, three.squares, four.squares]
-}
-
-fn channel_leasts(totals: [Total; 4]) -> [i8; 4]
-    ensures { λ r. ⌜ r ≡ channelLeasts totals ⌝ }
-{
-    let one = totals[0];
-    let two = totals[1];
-    let three = totals[2];
-    let four = totals[3];
-    [one.least, two.least, three.least, four.least]
-}
-
-fn channel_greatests(totals: [Total; 4]) -> [i8; 4]
-    ensures { λ r. ⌜ r ≡ channelGreatests totals ⌝ }
-{
-    let one = totals[0];
-    let two = totals[1];
-    let three = totals[2];
-    let four = totals[3];
-    [one.greatest, two.greatest, three.greatest, four.greatest]
+    Columns {
+        sums: [one.sum, two.sum, three.sum, four.sum],
+        squares: [one.squares, two.squares, three.squares, four.squares],
+        least: [one.least, two.least, three.least, four.least],
+        greatest: [one.greatest, two.greatest, three.greatest, four.greatest],
+    }
 }
 
 pub fn put_totals(
@@ -154,10 +137,11 @@ pub fn put_totals(
     ensures { λ _. ⌜ now (least .exit) ≡ placed (now (least .entry)) (channelLeasts totals) ⌝ }
     ensures { λ _. ⌜ now (greatest .exit) ≡ placed (now (greatest .entry)) (channelGreatests totals) ⌝ }
 {
-    let each_sum = channel_sums(totals);
-    let each_squares = channel_squares(totals);
-    let each_least = channel_leasts(totals);
-    let each_greatest = channel_greatests(totals);
+    let all = split(totals);
+    let each_sum = all.sums;
+    let each_squares = all.squares;
+    let each_least = all.least;
+    let each_greatest = all.greatest;
     put_signed(sums, &each_sum);
     put_numbers(squares, &each_squares);
     put_samples(least, &each_least);

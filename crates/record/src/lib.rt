@@ -1,7 +1,7 @@
 // Records of 1985: which are accepted, their header read and written, and the frequency rate. 01: "The record", refusals 1 to
 // 11 and 22. Every function here takes any bytes; a refusal is 01's number, and 0 is none.
 ghost use mathlib.Core.Path.{_≡_};
-ghost use mathlib.Core.Bool.{Bool, not};
+ghost use mathlib.Core.Bool.{not};
 ghost use mathlib.Core.List.{[], _∷_};
 ghost use Prim.Native.Nat.{_+_, _*_, _^_, _≤_, _<_};
 ghost use lib.Dec.{eqb};

@@ -1,7 +1,7 @@
 -- 01's "Values worked by hand", those marked P: what the definitions give beside what 01 says.
-use Prim.Native.Nat.{ℕ, _^_, _*_, _/_, _%_}
-use mathlib.Core.List.{List, [], _∷_, _++_, map}
-use lib.IntN.{ℤ, pos, negsuc, negℤ}
+use Prim.Native.Nat.{ℕ}
+use mathlib.Core.List.{List, [], _∷_, _++_}
+use lib.IntN.{ℤ, pos, negℤ}
 use lib.ListN.{getD}
 use Rattle.record.specs.Answer.{Answer}
 use Rattle.record.specs.Record.{recordRefusal, headerAnswer}

@@ -1,11 +1,9 @@
 -- A field that is readable, or none. Assumes nothing.
-use Prim.Native.Nat.{ℕ}
-use mathlib.Core.Path.{_≡_, ap, sym, _∙_}
-use mathlib.Core.Bool.{Bool, true, cond, not, _||_}
-use mathlib.Core.List.{List}
+use mathlib.Core.Path.{ap, sym, _∙_}
+use mathlib.Core.Bool.{Bool, cond}
 use denote.Ref.{now}
 use Rattle.lists.proofs.Truth.{held}
-use Rattle.fields.specs.Field.{readable, valueOf, withValue, digitsGood}
+use Rattle.fields.specs.Field.{withValue}
 use Rattle.fields.proofs.OneField.{is-readable}
 use borrow.Author.Needs.{needs}
 use Rattle.fields.proofs.write_field.Statement.{statement}

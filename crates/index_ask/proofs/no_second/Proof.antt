@@ -1,12 +1,10 @@
 -- `index_ask::no_second` meets its contract. Assumes nothing.
-use Prim.Native.Nat.{ℕ, suc, _≤_}
-use mathlib.Core.Path.{_≡_, ap, refl}
-use mathlib.Core.Bool.{Bool, false}
+use Prim.Native.Nat.{ℕ, _≤_}
+use mathlib.Core.Path.{_≡_, ap}
+use mathlib.Core.Bool.{Bool}
 use native.Mathlib.Omega.{arith}
-use lib.Dec.{eqb}
 use borrow.Author.Tests.{ne-eqb}
-use Rattle.record.specs.Answer.{Answer}
-use Rattle.index_model.specs.Second.{SecondTotals, noSecond}
+use Rattle.index_model.specs.Second.{noSecond}
 use Rattle.index_ask.proofs.no_second.Statement.{statement}
 use Rattle.index_ask.proofs.no_second.Tie as tie
 

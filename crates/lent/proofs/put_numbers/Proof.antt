@@ -1,7 +1,6 @@
 -- `lent::put_numbers` meets its contract. The loop's invariant: the first k values are there. Assumes nothing.
 use Prim.Native.Nat.{ℕ, _≤_, _-_, min}
 use mathlib.Core.Path.{_≡_, refl}
-use native.Mathlib.Nat.{min-le-left, min-le-right}
 use native.Mathlib.Omega.{arith}
 use lib.ListN.{length, getD}
 use borrow.Author.Needs.{needs}

@@ -5,17 +5,8 @@ use borrow.Author.Needs.{needs}
 use Rattle.lent.proofs.put_totals.Statement.{statement}
 use Rattle.lent.proofs.put_totals.Tie as tie
 
-channel-sums-requires : tie.Need-channel-sums-requires
-channel-sums-requires c κs = search needs
-
-channel-squares-requires : tie.Need-channel-squares-requires
-channel-squares-requires c κs = search needs
-
-channel-leasts-requires : tie.Need-channel-leasts-requires
-channel-leasts-requires c κs = search needs
-
-channel-greatests-requires : tie.Need-channel-greatests-requires
-channel-greatests-requires c κs = search needs
+split-requires : tie.Need-split-requires
+split-requires c κs = search needs
 
 slice-aggregate-put-signed : tie.Need-slice-aggregate-put-signed
 slice-aggregate-put-signed c = search needs
@@ -59,18 +50,13 @@ returns c =
     let least = greatest .before .before .before .before in
     let squares = least .before .before .before .before .before in
     let sums = squares .before .before .before .before in
-    let greatests = sums .before .before .before in
-    let leasts = greatests .before in
-    let each-square = leasts .before in
-    let each-sum = each-square .before in
-    let a = each-sum .before .before .args in (
-      sums .put-signed .ensures ∙ ap (placed (a .sums .now)) (each-sum .channel-sums .ensures),
+    let all = sums .before .before .before .before .before .before .before in
+    let e = all .split .ensures in
+    let a = all .before .before .args in (
+      sums .put-signed .ensures ∙ ap (placed (a .sums .now)) (e .0),
       (
-        squares .put-numbers .ensures ∙ ap (placed (a .squares .now)) (each-square .channel-squares .ensures),
-        (
-          least .put-samples .ensures ∙ ap (placed (a .least .now)) (leasts .channel-leasts .ensures),
-          greatest .put-samples2 .ensures ∙ ap (placed (a .greatest .now)) (greatests .channel-greatests .ensures),
-        ),
+        squares .put-numbers .ensures ∙ ap (placed (a .squares .now)) (e .1),
+        (least .put-samples .ensures ∙ ap (placed (a .least .now)) (e .2), greatest .put-samples2 .ensures ∙ ap (placed (a .greatest .now)) (e .3)),
       ),
     )
 
@@ -78,10 +64,7 @@ pub put-totals-spec : {M : Type 1} → statement M
 put-totals-spec =
     tie.close
     (tie.spec
-    channel-sums-requires
-    channel-squares-requires
-    channel-leasts-requires
-    channel-greatests-requires
+    split-requires
     slice-aggregate-put-signed
     put-signed-requires
     slice-aggregate-put-numbers

@@ -1,5 +1,5 @@
 -- `odr::odr_segment` meets its contract. Assumes nothing.
-use mathlib.Core.Path.{ap, sym, _∙_}
+use mathlib.Core.Path.{ap, _∙_}
 use denote.Ref.{now}
 use lib.ListN.{length}
 use Rattle.lent.specs.Lent.{placed}

@@ -1,5 +1,4 @@
 -- `odr::odr_write_header` meets its contract. Assumes nothing.
-use Prim.Native.Nat.{ℕ}
 use mathlib.Core.Path.{ap, _∙_}
 use lib.ListN.{length}
 use Rattle.record.specs.Record.{writeRefusal, afterWriting}
