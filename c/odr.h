@@ -6,7 +6,7 @@
  *
  * `uint8_t` answers are the refusal numbers of the scope document, 01, and 0 is none. A refused call writes nothing at all.
  * Numbers that go out to a buffer start at its first element; where it is too small for all of them it gets as many as it holds,
- * and elements past them keep their contents.
+ * and elements past them keep their contents. Of numbers that come in, those past the last one wanted are not read.
  */
 #ifndef ODR_H
 #define ODR_H
@@ -21,7 +21,7 @@ enum {
     ODR_OPENING_VALUES = 9,  /* first second, number of seconds, highest record number, rate, tape, year, day, spacecraft, SPC */
     ODR_CELLS = 20,          /* cells of a row, and of a second */
     ODR_LONGEST_INPUT = 65536,
-    ODR_LONGEST_LISTING = 65536
+    ODR_LONGEST_LISTING = 65536 /* a buffer of this size holds the listing of any input */
 };
 
 /* ---- Records. A record is any bytes; each call but the first gives 1 to 11 where they are not accepted. */
@@ -52,7 +52,8 @@ uint8_t odr_sample_time(const uint8_t *record, size_t record_len, uint64_t k, ui
 /* The two phases in cycles, exactly. 1 to 11. */
 uint8_t odr_phases(const uint8_t *record, size_t record_len, double *cycles, size_t cycles_len);
 
-/* A monitor segment's bytes, and how many they are. 1 to 11 of this record, then of the earlier one, 20, 23. */
+/* A monitor segment's bytes, and how many the segment has, also where the buffer gets fewer. 1 to 11 of this record, then of the
+ * earlier one, 20, 23. */
 uint8_t odr_segment(const uint8_t *this_record, size_t this_len, const uint8_t *earlier, size_t earlier_len, uint64_t number,
                     uint8_t *bytes, size_t bytes_len, size_t *length);
 
@@ -63,12 +64,13 @@ uint8_t odr_step(const uint8_t *reel, size_t reel_len, size_t place, size_t *nex
 
 /* ---- Totals of samples. Each buffer gets four numbers, for channels 1 to 4. */
 
-/* Totals of a stretch of samples, four bytes a set; of more than 65,536 sets, the first ones. */
+/* Totals of a stretch of samples, four bytes a set; bytes after the last whole set are not read, and of more than 65,536 sets only
+ * the first ones are. */
 void odr_totals(const uint8_t *stretch, size_t stretch_len, int64_t *sums, size_t sums_len, uint64_t *squares, size_t squares_len,
                 int8_t *least, size_t least_len, int8_t *greatest, size_t greatest_len);
 
-/* Mean and mean square of so many samples with this sum and these squares; both 0 for no samples, and where a number is above
- * 2^53. */
+/* Mean and mean square of so many samples with this sum and these squares; both 0 for no samples, and where a number is beyond
+ * 2^53, of either sign. */
 void odr_means(int64_t sum, uint64_t squares, uint64_t count, double *means, size_t means_len);
 
 /* ---- The index of seconds. What opening gave goes into every later call; numbers that are not given count as 0. The cells are

@@ -10,26 +10,36 @@ pub const LONGEST_INPUT: usize = 65_536;
 /// One record's line.
 pub fn line(record: &[u8]) -> Result<String, u8> {
     let h = read_header(record)?;
-    let first_us = sample_time(record, 0)?;
-    let rate = frequency_rate(record)?;
+    let columns = [h.record_number, sample_time(record, 0)?, h.clock_origin, h.readback_uhz];
+    Ok(columns_line(columns, frequency_rate(record)?))
+}
+
+/// Record number, first sample's microseconds, clock origin and readback in microhertz; the rate in units of 0.00001 Hz/s.
+pub fn columns_line([number, first_us, origin, readback_uhz]: [u64; 4], rate: i64) -> String {
     let (minus, size) = (if rate < 0 { "-" } else { "" }, rate.unsigned_abs());
-    Ok(format!(
-        "{},{},{},{}.{:06},{}{}.{:05}\n",
-        h.record_number,
-        first_us,
-        h.clock_origin,
-        h.readback_uhz / 1_000_000,
-        h.readback_uhz % 1_000_000,
-        minus,
+    format!(
+        "{number},{first_us},{origin},{}.{:06},{minus}{}.{:05}\n",
+        readback_uhz / 1_000_000,
+        readback_uhz % 1_000_000,
         size / 100_000,
         size % 100_000
-    ))
+    )
+}
+
+pub fn refused_line(number: u64) -> String {
+    format!("refused,{number}\n")
 }
 
 /// Puts a text at the start of a lent buffer and gives its length.
 pub fn put_text(buffer: &mut [u8], text: &[u8]) -> Result<usize, u8> {
-    buffer.get_mut(..text.len()).ok_or(21)?.copy_from_slice(text);
-    Ok(text.len())
+    put_text_at(buffer, 0, text)
+}
+
+/// Puts a text at a place of a lent buffer and gives the place after it.
+pub fn put_text_at(buffer: &mut [u8], place: usize, text: &[u8]) -> Result<usize, u8> {
+    let next = place.checked_add(text.len()).ok_or(21)?;
+    buffer.get_mut(place..next).ok_or(21)?.copy_from_slice(text);
+    Ok(next)
 }
 
 /// A record's line put into a lent buffer: 1 to 11, then 21.
@@ -40,7 +50,7 @@ pub fn put_line(buffer: &mut [u8], record: &[u8]) -> Result<usize, u8> {
 pub fn listing(input: &[u8]) -> Vec<u8> {
     let mut text = String::from(HEADER_LINE);
     if let Err(number) = lines(input, &mut text) {
-        text += &format!("refused,{number}\n");
+        text += &refused_line(u64::from(number));
     }
     text.into_bytes()
 }

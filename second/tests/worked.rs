@@ -2,7 +2,7 @@
 
 use second::book::{open, Ledger, Opening, SecondTotals};
 use second::gen::{digit_places, set_digit, set_tag, set_word, word};
-use second::lister::{line, listing, put_line, put_text, HEADER_LINE};
+use second::lister::{columns_line, line, listing, put_line, put_text, put_text_at, refused_line, HEADER_LINE};
 use second::monitor::{segment, SEGMENTS};
 use second::record::{accept, frequency_rate, read_header, write_header, Header, RATES};
 use second::reel::{step, Step};
@@ -634,6 +634,19 @@ fn refusal_21() {
     }
     assert_eq!(put_text(&mut [], &[]), Ok(0));
     assert_eq!(put_text(&mut [], &[1]), Err(21));
+    let mut buffer = [7; 4];
+    assert_eq!(put_text_at(&mut buffer, 3, &[1, 2]), Err(21));
+    assert_eq!(put_text_at(&mut buffer, usize::MAX, &[1, 2]), Err(21));
+    assert_eq!((put_text_at(&mut buffer, 2, &[1, 2]), buffer), (Ok(4), [7, 7, 1, 2]));
+}
+
+#[test]
+fn lines_of_extreme_numbers() {
+    let most = "18446744073709551615";
+    let line = format!("{most},{most},{most},18446744073709.551615,-92233720368547.75808\n");
+    assert_eq!(columns_line([u64::MAX; 4], i64::MIN), line);
+    assert_eq!(columns_line([0, 0, 0, 1], -1), "0,0,0,0.000001,-0.00001\n");
+    assert_eq!(refused_line(u64::MAX), format!("refused,{most}\n"));
 }
 
 #[test]
