@@ -62,6 +62,12 @@ uint8_t odr_segment(const uint8_t *this_record, size_t this_len, const uint8_t *
 /* The place after the record at a place, which is the place itself at the end of the reel and past it. 1 to 11. */
 uint8_t odr_step(const uint8_t *reel, size_t reel_len, size_t place, size_t *next);
 
+/* The same at the start of the reel. 1 to 11. */
+uint8_t odr_first(const uint8_t *reel, size_t reel_len, size_t *next);
+
+/* The bytes of the record at a place. The answer is its length, 0 where no record stands. */
+size_t odr_record(const uint8_t *reel, size_t reel_len, size_t place, uint8_t *bytes, size_t bytes_len);
+
 /* ---- Totals of samples. Each buffer gets four numbers, for channels 1 to 4. */
 
 /* Totals of a stretch of samples, four bytes a set; bytes after the last whole set are not read, and of more than 65,536 sets only

@@ -109,6 +109,12 @@ static void segments(void) {
     uint8_t answers[3] = {odr_step(record, LENGTH, 0, &after), odr_step(record, LENGTH, LENGTH, &end),
                           odr_step(record, LENGTH, 1, &none)};
     printf("step %u %zu, %u %zu, %u %zu\n", answers[0], after, answers[1], end, answers[2], none);
+    size_t first = 0;
+    answer = odr_first(record, LENGTH, &first);
+    printf("first %u %zu", answer, first);
+    length = odr_record(record, LENGTH, 0, bytes, 3);
+    printf(", record of %zu bytes: %02X %02X %02X %d", length, bytes[0], bytes[1], bytes[2], bytes[3]);
+    printf(", at the end %zu\n", odr_record(record, LENGTH, LENGTH, bytes, 3));
 }
 
 static uint64_t opening[ODR_OPENING_VALUES];

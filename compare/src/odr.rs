@@ -21,6 +21,8 @@ extern "C" {
         bytes: *mut u8, bytes_len: usize, length: *mut usize,
     ) -> u8;
     fn odr_step(reel: *const u8, reel_len: usize, place: usize, next: *mut usize) -> u8;
+    fn odr_first(reel: *const u8, reel_len: usize, next: *mut usize) -> u8;
+    fn odr_record(reel: *const u8, reel_len: usize, place: usize, bytes: *mut u8, bytes_len: usize) -> usize;
     fn odr_totals(
         stretch: *const u8, stretch_len: usize, sums: *mut i64, sums_len: usize, squares: *mut u64, squares_len: usize,
         least: *mut i8, least_len: usize, greatest: *mut i8, greatest_len: usize,
@@ -116,6 +118,14 @@ pub fn segment(this: &[u8], earlier: &[u8], number: u64, bytes: &mut [u8], lengt
 
 pub fn step(reel: &[u8], place: usize, next: &mut usize) -> u8 {
     unsafe { odr_step(reel.as_ptr(), reel.len(), place, next) }
+}
+
+pub fn first(reel: &[u8], next: &mut usize) -> u8 {
+    unsafe { odr_first(reel.as_ptr(), reel.len(), next) }
+}
+
+pub fn record(reel: &[u8], place: usize, bytes: &mut [u8]) -> usize {
+    unsafe { odr_record(reel.as_ptr(), reel.len(), place, bytes.as_mut_ptr(), bytes.len()) }
 }
 
 pub fn totals(stretch: &[u8], sums: &mut [i64], squares: &mut [u64], least: &mut [i8], greatest: &mut [i8]) {

@@ -216,8 +216,8 @@ pub fn any_reel(rng: &mut Rng) -> Vec<u8> {
     }
 }
 
-pub fn step(run: &mut Run) {
-    let rng = &mut run.rng;
+/// A reel, and a place that is mostly that of a record or the one where a walk stops.
+fn reel_and_place(rng: &mut Rng) -> (Lent<u8>, usize) {
     let reel = any_reel(rng);
     let mut places = vec![0];
     let mut stop = 0;
@@ -227,17 +227,43 @@ pub fn step(run: &mut Run) {
     }
     let (end, inside, known) = (reel.len(), rng.within(0, reel.len() as u64) as usize, rng.pick(&places));
     let odd = rng.pick(&[inside, end, end + 1, end.saturating_sub(1), usize::MAX, usize::MAX - inside]);
-    let place = rng.pick(&[stop, stop, known, known, known, odd]);
-    let mut reel = Lent::of(&reel);
-    let mut next = Lent::random(rng, 1);
+    (Lent::of(&reel), rng.pick(&[stop, stop, known, known, known, odd]))
+}
+
+/// A step at a place, by a call that is given the reel and the place after it to write to.
+fn step_by(run: &mut Run, name: &str, mut reel: Lent<u8>, place: usize, call: impl Fn(&[u8], &mut usize) -> u8) {
+    let mut next = Lent::random(&mut run.rng, 1);
     let (outcome, expected) = match second_step(reel.body(), place) {
         Step::Finished => ("finished".to_string(), Ok(vec![place])),
         Step::Record { next, .. } => ("0".to_string(), Ok(vec![next])),
         Step::Refused(number) => (number.to_string(), Err(number)),
     };
-    let actual = odr::step(reel.body(), place, &mut next.body_mut()[0]);
+    let actual = call(reel.body(), &mut next.body_mut()[0]);
     let parts = [("reel", reel.difference()), ("next", next.check(&expected))];
-    run.compare_as("odr_step", &outcome, actual, answer(&expected), &parts);
+    run.compare_as(name, &outcome, actual, answer(&expected), &parts);
+}
+
+pub fn step(run: &mut Run) {
+    let (reel, place) = reel_and_place(&mut run.rng);
+    step_by(run, "odr_step", reel, place, |reel, next| odr::step(reel, place, next));
+}
+
+pub fn first(run: &mut Run) {
+    let (reel, _) = reel_and_place(&mut run.rng);
+    step_by(run, "odr_first", reel, 0, odr::first);
+}
+
+pub fn record_at(run: &mut Run) {
+    let (mut reel, place) = reel_and_place(&mut run.rng);
+    let (outcome, bytes) = match second_step(reel.body(), place) {
+        Step::Record { bytes, .. } => ("0", reel.body()[bytes].to_vec()),
+        _ => ("none", vec![]),
+    };
+    let mut out = Lent::output(&mut run.rng, bytes.len());
+    let length = odr::record(reel.body(), place, out.body_mut());
+    let told = (length != bytes.len()).then(|| format!("{length}, expected {}", bytes.len()));
+    let parts = [("reel", reel.difference()), ("bytes", out.check(&Ok(bytes))), ("length", told)];
+    run.compare_as("odr_record", outcome, 0, 0, &parts);
 }
 
 /// The four outputs of channels' totals.

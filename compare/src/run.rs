@@ -6,7 +6,7 @@ use second::gen::Rng;
 /// Each call with every outcome that must be hit: the refusal numbers that c/odr.h names, 0 for none. Kinds of one number are
 /// told apart by words; "left open" is an answer on cells that 01 says nothing of, where guards and other refusals alone are
 /// compared.
-const CALLS: [(&str, &str); 23] = [
+const CALLS: [(&str, &str); 25] = [
     ("odr_accept", "0,1-11"),
     ("odr_read_header", "0,1-11"),
     ("odr_write_header", "0,1-11,22"),
@@ -17,6 +17,8 @@ const CALLS: [(&str, &str); 23] = [
     ("odr_phases", "0,1-11"),
     ("odr_segment", "this 0,earlier 0,this 1-11,earlier 1-11,20,23"),
     ("odr_step", "0,finished,1-11"),
+    ("odr_first", "0,finished,1-11"),
+    ("odr_record", "0,none"),
     ("odr_totals", "0,more sets"),
     ("odr_means", "0,no samples,above 2^53"),
     ("odr_open", "0,1-11,13-14"),

@@ -13,7 +13,7 @@ const SEED: u64 = 1985;
 const CASES: u64 = 1_000_000;
 
 /// The calls outside histories.
-const CALLS: [fn(&mut Run); 20] = [
+const CALLS: [fn(&mut Run); 22] = [
     records::accept,
     records::read_header,
     records::write_header,
@@ -26,6 +26,8 @@ const CALLS: [fn(&mut Run); 20] = [
     records::segment,
     records::segment,
     records::step,
+    records::first,
+    records::record_at,
     records::totals,
     records::means,
     index::open_any,

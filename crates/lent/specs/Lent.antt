@@ -31,13 +31,13 @@ lengthOr old a = cond (a .given) (length (a .value)) old
 abbrev pub nextOr : ℕ → Shown → ℕ
 nextOr old put = cond (eqb (put .refusal) 0) (put .next) old
 
--- of what stands at a place of a reel: the refusal's number, and a lent place after it, which is the place itself at the end
+-- of what stands at a place of a reel: the refusal's number, and a lent place, which becomes the next place unless refused
 abbrev pub stepNumber : Found → ℕ
 stepNumber (accepted start end) = 0
 stepNumber finished = 0
 stepNumber (refused n) = n
 
 abbrev pub stepNext : ℕ → ℕ → Found → ℕ
-stepNext place old (accepted start end) = end
-stepNext place old finished = place
-stepNext place old (refused n) = old
+stepNext next old (accepted start end) = next
+stepNext next old finished = next
+stepNext next old (refused n) = old

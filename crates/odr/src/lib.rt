@@ -10,7 +10,8 @@ ghost use Rattle.samples.specs.InOut.{samplesRefusal, bufferAfter, recordAfter}
 ghost use Rattle.times.specs.SampleTime.{timeAnswer};
 ghost use Rattle.times.specs.Phases.{phaseAnswer};
 ghost use Rattle.monitor.specs.Monitor.{segmentAnswer};
-ghost use Rattle.reel.specs.Reel.{stepAt};
+ghost use Rattle.reel.specs.Reel.{stepAt, recordAt, nextPlace};
+ghost use Rattle.reel.specs.Shown.{shownStep};
 ghost use Rattle.means.specs.Means.{meansOf};
 ghost use Rattle.index_model.specs.Opening.{openAnswer, openRows, openSeconds};
 ghost use Rattle.index_model.specs.Calls.{putRefusal, putRows, putSeconds, takeRefusal, takeRows, takeSeconds, askAnswer, testAnswer};
@@ -158,22 +159,50 @@ pub extern "C" fn odr_segment<'a>(
 
 // ## Reels
 
-#[no_mangle]
-pub extern "C" fn odr_step(reel: &[u8], place: usize, next: &mut usize) -> u8
-    ensures { λ r. ⌜ r ≡ stepNumber (stepAt (now (reel .entry)) place) ⌝ }
-    ensures { λ _. ⌜ now (next .exit) ≡ stepNext place (now (next .entry)) (stepAt (now (reel .entry)) place) ⌝ }
+// The place `after` goes out where a step is no refusal.
+fn put_next(step: Step, after: usize, next: &mut usize) -> u8
+    ensures { λ r. ⌜ r ≡ stepNumber (shownStep step) ⌝ }
+    ensures { λ _. ⌜ now (next .exit) ≡ stepNext after (now (next .entry)) (shownStep step) ⌝ }
 {
-    match reel::step_at(reel, place) {
-        Step::Record { start: _, end } => {
-            *next = end;
+    match step {
+        Step::Record { start: _, end: _ } => {
+            *next = after;
             0
         }
         Step::Finished => {
-            *next = place;
+            *next = after;
             0
         }
         Step::Refused(n) => n,
     }
+}
+
+#[no_mangle]
+pub extern "C" fn odr_first(reel: &[u8], next: &mut usize) -> u8
+    ensures { λ r. ⌜ r ≡ stepNumber (stepAt (now (reel .entry)) 0) ⌝ }
+    ensures { λ _. ⌜ now (next .exit) ≡ stepNext (nextPlace (now (reel .entry)) 0) (now (next .entry)) (stepAt (now (reel .entry)) 0) ⌝ }
+{
+    let after = reader_calls::next(reel, 0);
+    put_next(reader_calls::first(reel), after, next)
+}
+
+#[no_mangle]
+pub extern "C" fn odr_step(reel: &[u8], place: usize, next: &mut usize) -> u8
+    ensures { λ r. ⌜ r ≡ stepNumber (stepAt (now (reel .entry)) place) ⌝ }
+    ensures { λ _. ⌜ now (next .exit) ≡ stepNext (nextPlace (now (reel .entry)) place) (now (next .entry)) (stepAt (now (reel .entry)) place) ⌝ }
+{
+    let after = reader_calls::next(reel, place);
+    put_next(reader_calls::peek(reel, place), after, next)
+}
+
+#[no_mangle]
+pub extern "C" fn odr_record(reel: &[u8], place: usize, out: &mut [u8]) -> usize
+    ensures { λ r. ⌜ r ≡ length (recordAt (now (reel .entry)) place) ⌝ }
+    ensures { λ _. ⌜ now (out .exit) ≡ placed (now (out .entry)) (recordAt (now (reel .entry)) place) ⌝ }
+{
+    let part = reader_calls::record(reel, place);
+    lent::put_bytes(out, part);
+    part.len()
 }
 
 // ## Totals

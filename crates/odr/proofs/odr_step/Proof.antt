@@ -1,46 +1,29 @@
 -- `odr::odr_step` meets its contract. Assumes nothing.
-use mathlib.Core.Path.{ap}
-use Rattle.reel.specs.Shown.{shownStep}
+use mathlib.Core.Path.{ap, _∙_}
 use Rattle.lent.specs.Lent.{stepNumber, stepNext}
-use Rattle.odr.proofs.Answers.{in-case}
 use borrow.Author.Needs.{needs}
 use Rattle.odr.proofs.odr_step.Statement.{statement}
 use Rattle.odr.proofs.odr_step.Tie as tie
 
-step-at-requires : tie.Need-step-at-requires
-step-at-requires c κs = search needs
+next-requires : tie.Need-next-requires
+next-requires c κs = search needs
 
-enum-known-end : tie.Need-enum-known-end
-enum-known-end c = search needs
+peek-requires : tie.Need-peek-requires
+peek-requires c κs = search needs
 
-enum-told : tie.Need-enum-told
-enum-told c = search needs
-
-enum-known-n : tie.Need-enum-known-n
-enum-known-n c = search needs
+put-next-requires : tie.Need-put-next-requires
+put-next-requires c κs = search needs
 
 returns : tie.Need-returns
 returns c =
-    let call = c .before .before .before in
-    let a = call .before .before .args in
-    let p = in-case shownStep (call .step-at .ensures) (c .before .end .given .1) in
-    (ap stepNumber p, ap (stepNext (a .place) (a .next .now)) p)
-
-returns-2 : tie.Need-returns-2
-returns-2 c =
-    let call = c .before .before in
-    let a = call .before .before .args in
-    let p = in-case shownStep (call .step-at .ensures) (c .enum-told .given .1) in
-    (ap stepNumber p, ap (stepNext (a .place) (a .next .now)) p)
-
-returns-3 : tie.Need-returns-3
-returns-3 c =
-    let call = c .before .before .before in
-    let a = call .before .before .args in
-    let p = in-case shownStep (call .step-at .ensures) (c .before .n .given .1) in
-    (ap stepNumber p, ap (stepNext (a .place) (a .next .now)) p)
+    let at = c .before .before in
+    let after = at .before in
+    let a = after .before .before .args in
+    let e = at .peek .ensures in
+    let n = after .next .ensures in (
+      c .put-next .ensures .0 ∙ ap stepNumber e,
+      c .put-next .ensures .1 ∙ (λ i. stepNext (n i) (a .next .now) (e i)),
+    )
 
 pub odr-step-spec : {M : Type 1} → statement M
-odr-step-spec =
-    tie.close
-    (tie.spec step-at-requires enum-known-end enum-told enum-known-n returns returns-2 returns-3)
+odr-step-spec = tie.close (tie.spec next-requires peek-requires put-next-requires returns)
