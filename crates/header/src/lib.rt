@@ -1,27 +1,27 @@
 // The header of 1985: one table of fields, which the reader and the writer consult. 01: the table of words under "The record".
 ghost use mathlib.Core.Path.{_≡_};
 ghost use Rattle.fields.specs.Field.{binaryFits, decimalFits};
-ghost use Rattle.fields.specs.Table.{writeAll, allDigitsGood, allFit};
+ghost use Rattle.fields.specs.Table.{readAll, writeAll, allDigitsGood, allFit};
 ghost use Rattle.header.specs.Format.{fields};
 ghost use Rattle.header.specs.Header.{values, named, headerOf};
 use fields::Field;
 
 // Each field: its word, its first bit, its width in bits, and whether the bits are decimal digits.
-const CLOCK_ORIGIN: Field = Field(1, 1, 1, false);
+pub const CLOCK_ORIGIN: Field = Field(1, 1, 1, false);
 
 const SESSION_START: Field = Field(1, 2, 1, false);
 
 const COPY_ERROR: Field = Field(1, 3, 1, false);
 
-const CONVERSION: Field = Field(1, 4, 1, false);
+pub const CONVERSION: Field = Field(1, 4, 1, false);
 
-const COMPRESSION: Field = Field(1, 5, 4, false);
+pub const COMPRESSION: Field = Field(1, 5, 4, false);
 
-const TAPE_NUMBER: Field = Field(1, 9, 8, false);
+pub const TAPE_NUMBER: Field = Field(1, 9, 8, false);
 
-const RECORD_NUMBER: Field = Field(2, 1, 16, false);
+pub const RECORD_NUMBER: Field = Field(2, 1, 16, false);
 
-const LENGTH_WORDS: Field = Field(3, 1, 16, false);
+pub const LENGTH_WORDS: Field = Field(3, 1, 16, false);
 
 const PRIME_FEA: Field = Field(4, 1, 8, false);
 
@@ -31,11 +31,11 @@ const SPACECRAFT: Field = Field(5, 1, 8, false);
 
 const SPC: Field = Field(5, 9, 8, false);
 
-const YEAR: Field = Field(6, 1, 7, false);
+pub const YEAR: Field = Field(6, 1, 7, false);
 
-const DAY: Field = Field(6, 8, 9, false);
+pub const DAY: Field = Field(6, 8, 9, false);
 
-const TIME_TAG_MS: Field = Field(7, 6, 27, false);
+pub const TIME_TAG_MS: Field = Field(7, 6, 27, false);
 
 const PREDICT_0: Field = Field(9, 1, 8, false);
 
@@ -61,7 +61,7 @@ const STATUS: Field = Field(14, 1, 8, false);
 
 const READBACK_UHZ: Field = Field(14, 9, 56, true);
 
-const READBACK_TAG_MS: Field = Field(18, 6, 27, false);
+pub const READBACK_TAG_MS: Field = Field(18, 6, 27, false);
 
 const CALCULATED_UHZ: Field = Field(20, 9, 56, true);
 
@@ -89,9 +89,9 @@ const SELECTOR_4: Field = Field(34, 13, 4, false);
 
 const COUNTER_TAG_MS: Field = Field(35, 6, 27, false);
 
-const SAMPLE_RATE_HZ: Field = Field(37, 1, 16, false);
+pub const SAMPLE_RATE_HZ: Field = Field(37, 1, 16, false);
 
-const SYNC_WORD: Field = Field(38, 1, 16, false);
+pub const SYNC_WORD: Field = Field(38, 1, 16, false);
 
 const WORD_39: Field = Field(39, 1, 16, false);
 
@@ -100,6 +100,9 @@ const REGISTER_1: Field = Field(40, 1, 8, false);
 const REGISTER_2: Field = Field(40, 9, 8, false);
 
 const FIELD_COUNT: usize = 46;
+
+// Bytes of the header.
+const HEADER_BYTES: usize = 80;
 
 // The format: the fields in the order of the words.
 const FIELDS: [Field; 46] = [
@@ -201,58 +204,88 @@ pub struct Header {
     pub register_2: u64,
 }
 
+// The values of the fields of bytes that are too short for a header, row by row.
+fn short_values(bytes: &[u8]) -> [u64; 46]
+    ensures { λ r. ⌜ r ≡ readAll fields (now (bytes .entry)) ⌝ }
+{
+    let mut values = [0u64; 46];
+    let mut k: usize = 0;
+    while k < FIELD_COUNT {
+        values[k] = fields::read_field(bytes, FIELDS[k]);
+        k += 1;
+    }
+    values
+}
+
+// The values of the fields, each named: an index into the table would write the table to memory first.
+fn whole_values(bytes: &[u8]) -> [u64; 46]
+    ensures { λ r. ⌜ r ≡ readAll fields (now (bytes .entry)) ⌝ }
+{
+    [
+        fields::read_field(bytes, CLOCK_ORIGIN),
+        fields::read_field(bytes, SESSION_START),
+        fields::read_field(bytes, COPY_ERROR),
+        fields::read_field(bytes, CONVERSION),
+        fields::read_field(bytes, COMPRESSION),
+        fields::read_field(bytes, TAPE_NUMBER),
+        fields::read_field(bytes, RECORD_NUMBER),
+        fields::read_field(bytes, LENGTH_WORDS),
+        fields::read_field(bytes, PRIME_FEA),
+        fields::read_field(bytes, SECONDARY_FEA),
+        fields::read_field(bytes, SPACECRAFT),
+        fields::read_field(bytes, SPC),
+        fields::read_field(bytes, YEAR),
+        fields::read_field(bytes, DAY),
+        fields::read_field(bytes, TIME_TAG_MS),
+        fields::read_field(bytes, PREDICT_0),
+        fields::read_field(bytes, PREDICT_1),
+        fields::read_field(bytes, PREDICT_2),
+        fields::read_field(bytes, PREDICT_3),
+        fields::read_field(bytes, PREDICT_4),
+        fields::read_field(bytes, PREDICT_5),
+        fields::read_field(bytes, PREDICT_6),
+        fields::read_field(bytes, PREDICT_7),
+        fields::read_field(bytes, PREDICT_8),
+        fields::read_field(bytes, PREDICT_9),
+        fields::read_field(bytes, STATUS),
+        fields::read_field(bytes, READBACK_UHZ),
+        fields::read_field(bytes, READBACK_TAG_MS),
+        fields::read_field(bytes, CALCULATED_UHZ),
+        fields::read_field(bytes, FILTER),
+        fields::read_field(bytes, UPDATE_TAG_MS),
+        fields::read_field(bytes, RATE_DIGITS),
+        fields::read_field(bytes, RATE_POWER),
+        fields::read_field(bytes, RATE_SIGN),
+        fields::read_field(bytes, PHASE_1),
+        fields::read_field(bytes, PHASE_2),
+        fields::read_field(bytes, SELECTOR_1),
+        fields::read_field(bytes, SELECTOR_2),
+        fields::read_field(bytes, SELECTOR_3),
+        fields::read_field(bytes, SELECTOR_4),
+        fields::read_field(bytes, COUNTER_TAG_MS),
+        fields::read_field(bytes, SAMPLE_RATE_HZ),
+        fields::read_field(bytes, SYNC_WORD),
+        fields::read_field(bytes, WORD_39),
+        fields::read_field(bytes, REGISTER_1),
+        fields::read_field(bytes, REGISTER_2),
+    ]
+}
+
+// The values of the fields, in the table's order. The length is tested once, here, so that no field past this test has to be.
+pub fn read_values(bytes: &[u8]) -> [u64; 46]
+    ensures { λ r. ⌜ r ≡ readAll fields (now (bytes .entry)) ⌝ }
+{
+    if bytes.len() < HEADER_BYTES {
+        return short_values(bytes);
+    }
+    whole_values(bytes)
+}
+
 // The header that the bytes hold.
 pub fn read_fields(bytes: &[u8]) -> Header
     ensures { λ r. ⌜ r ≡ headerOf (now (bytes .entry)) ⌝ }
 {
-    Header {
-        clock_origin: fields::read_field(bytes, CLOCK_ORIGIN),
-        session_start: fields::read_field(bytes, SESSION_START),
-        copy_error: fields::read_field(bytes, COPY_ERROR),
-        conversion: fields::read_field(bytes, CONVERSION),
-        compression: fields::read_field(bytes, COMPRESSION),
-        tape_number: fields::read_field(bytes, TAPE_NUMBER),
-        record_number: fields::read_field(bytes, RECORD_NUMBER),
-        length_words: fields::read_field(bytes, LENGTH_WORDS),
-        prime_fea: fields::read_field(bytes, PRIME_FEA),
-        secondary_fea: fields::read_field(bytes, SECONDARY_FEA),
-        spacecraft: fields::read_field(bytes, SPACECRAFT),
-        spc: fields::read_field(bytes, SPC),
-        year: fields::read_field(bytes, YEAR),
-        day: fields::read_field(bytes, DAY),
-        time_tag_ms: fields::read_field(bytes, TIME_TAG_MS),
-        predict_0: fields::read_field(bytes, PREDICT_0),
-        predict_1: fields::read_field(bytes, PREDICT_1),
-        predict_2: fields::read_field(bytes, PREDICT_2),
-        predict_3: fields::read_field(bytes, PREDICT_3),
-        predict_4: fields::read_field(bytes, PREDICT_4),
-        predict_5: fields::read_field(bytes, PREDICT_5),
-        predict_6: fields::read_field(bytes, PREDICT_6),
-        predict_7: fields::read_field(bytes, PREDICT_7),
-        predict_8: fields::read_field(bytes, PREDICT_8),
-        predict_9: fields::read_field(bytes, PREDICT_9),
-        status: fields::read_field(bytes, STATUS),
-        readback_uhz: fields::read_field(bytes, READBACK_UHZ),
-        readback_tag_ms: fields::read_field(bytes, READBACK_TAG_MS),
-        calculated_uhz: fields::read_field(bytes, CALCULATED_UHZ),
-        filter: fields::read_field(bytes, FILTER),
-        update_tag_ms: fields::read_field(bytes, UPDATE_TAG_MS),
-        rate_digits: fields::read_field(bytes, RATE_DIGITS),
-        rate_power: fields::read_field(bytes, RATE_POWER),
-        rate_sign: fields::read_field(bytes, RATE_SIGN),
-        phase_1: fields::read_field(bytes, PHASE_1),
-        phase_2: fields::read_field(bytes, PHASE_2),
-        selector_1: fields::read_field(bytes, SELECTOR_1),
-        selector_2: fields::read_field(bytes, SELECTOR_2),
-        selector_3: fields::read_field(bytes, SELECTOR_3),
-        selector_4: fields::read_field(bytes, SELECTOR_4),
-        counter_tag_ms: fields::read_field(bytes, COUNTER_TAG_MS),
-        sample_rate_hz: fields::read_field(bytes, SAMPLE_RATE_HZ),
-        sync_word: fields::read_field(bytes, SYNC_WORD),
-        word_39: fields::read_field(bytes, WORD_39),
-        register_1: fields::read_field(bytes, REGISTER_1),
-        register_2: fields::read_field(bytes, REGISTER_2),
-    }
+    named(read_values(bytes))
 }
 
 // The values of a header, in the table's order.

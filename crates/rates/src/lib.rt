@@ -6,29 +6,31 @@ ghost use Rattle.rates.specs.Rates.{rateOf};
 // samples, and the record's length in words with and without the operator offsets (software OP-B and OP-A).
 pub struct Rate(pub u64, pub u64, pub u64, pub u64, pub u64, pub u64);
 
-const RATE_COUNT: usize = 7;
-
-const RATES: [Rate; 7] = [
-    Rate(50_000, 50, 1000, 2040, 2195, 2190),
-    Rate(20_000, 20, 1000, 2040, 2195, 2190),
-    Rate(10_000, 10, 1000, 2040, 2195, 2190),
-    Rate(5_000, 5, 1000, 2040, 2195, 2190),
-    Rate(2_000, 2, 1000, 2040, 2195, 2190),
-    Rate(1_000, 2, 500, 1040, 1195, 1190),
-    Rate(200, 2, 100, 240, 395, 390),
-];
-
-// The line of a rate, or a line of zeros where no line has it.
+// The line of a rate, or a line of zeros where no line has it. Each line is a branch: a search through an array of lines would first
+// write the whole array to memory, at each call.
 pub fn rate_of(hz: u64) -> Rate
     ensures { λ r. ⌜ r ≡ rateOf hz ⌝ }
 {
-    let mut k: usize = 0;
-    while k < RATE_COUNT {
-        let line = RATES[k];
-        if line.0 == hz {
-            return line;
-        }
-        k += 1;
+    if hz == 50_000 {
+        return Rate(50_000, 50, 1000, 2040, 2195, 2190);
+    }
+    if hz == 20_000 {
+        return Rate(20_000, 20, 1000, 2040, 2195, 2190);
+    }
+    if hz == 10_000 {
+        return Rate(10_000, 10, 1000, 2040, 2195, 2190);
+    }
+    if hz == 5_000 {
+        return Rate(5_000, 5, 1000, 2040, 2195, 2190);
+    }
+    if hz == 2_000 {
+        return Rate(2_000, 2, 1000, 2040, 2195, 2190);
+    }
+    if hz == 1_000 {
+        return Rate(1_000, 2, 500, 1040, 1195, 1190);
+    }
+    if hz == 200 {
+        return Rate(200, 2, 100, 240, 395, 390);
     }
     Rate(0, 0, 0, 0, 0, 0)
 }

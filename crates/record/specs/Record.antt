@@ -24,21 +24,26 @@ lastMs = 86399999
 abbrev pub syncWord : ℕ
 syncWord = 42330
 
--- 1 to 11 for a record of n bytes with the header h, the line of its rate, and whether its decimal fields are decimal
+-- 1 to 11 for a record of n bytes: the line of its rate, the values of its header, and whether its decimal fields are decimal
+abbrev pub checksOn : Rate → (n words conversion compression tape number year day tag readbackTag : ℕ) → Bool → (origin sync : ℕ) → List Check
+checksOn rate n words conversion compression tape number year day tag readbackTag decimals origin sync =
+    1 when ltb n headerBytes ∷
+    2 when not (eqb n (2 * words)) ∷
+    3 when eqb conversion 1 ∷
+    4 when not (eqb compression 1) ∷
+    5 when isNoRate rate ∷
+    6 when (not (eqb words (wordsB rate)) && not (eqb words (wordsA rate))) ∷
+    7 when (eqb tape 0 || eqb number 0) ∷
+    8 when (ltb 99 year || (eqb day 0 || ltb 366 day)) ∷
+    9 when (ltb lastMs tag || ltb lastMs readbackTag) ∷
+    10 when not decimals ∷
+    11 when (eqb origin 1 && not (eqb sync syncWord)) ∷
+    []
+
 abbrev pub checksBy : Rate → ℕ → Header → Bool → List Check
 checksBy rate n h decimals =
-    1 when ltb n headerBytes ∷
-    2 when not (eqb n (2 * h .«length_words»)) ∷
-    3 when eqb (h .conversion) 1 ∷
-    4 when not (eqb (h .compression) 1) ∷
-    5 when isNoRate rate ∷
-    6 when (not (eqb (h .«length_words») (wordsB rate)) && not (eqb (h .«length_words») (wordsA rate))) ∷
-    7 when (eqb (h .«tape_number») 0 || eqb (h .«record_number») 0) ∷
-    8 when (ltb 99 (h .year) || (eqb (h .day) 0 || ltb 366 (h .day))) ∷
-    9 when (ltb lastMs (h .«time_tag_ms») || ltb lastMs (h .«readback_tag_ms»)) ∷
-    10 when not decimals ∷
-    11 when (eqb (h .«clock_origin») 1 && not (eqb (h .«sync_word») syncWord)) ∷
-    []
+    checksOn rate n (h .«length_words») (h .conversion) (h .compression) (h .«tape_number») (h .«record_number») (h .year) (h .day)
+    (h .«time_tag_ms») (h .«readback_tag_ms») decimals (h .«clock_origin») (h .«sync_word»)
 
 abbrev pub checks : ℕ → Header → Bool → List Check
 checks n h decimals = checksBy (rateOf (h .«sample_rate_hz»)) n h decimals

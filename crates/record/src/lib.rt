@@ -6,8 +6,9 @@ ghost use mathlib.Core.List.{[], _∷_};
 ghost use Prim.Native.Nat.{_+_, _*_, _^_, _≤_, _<_};
 ghost use lib.Dec.{eqb};
 ghost use lib.ListN.{length};
+ghost use Rattle.rates.specs.Rates.{rateOf};
 ghost use Rattle.record.specs.Refusal.{_when_, first, _then_};
-ghost use Rattle.record.specs.Record.{checks, recordRefusal, headerAnswer, writeRefusal, afterWriting};
+ghost use Rattle.record.specs.Record.{checksOn, checks, recordRefusal, headerAnswer, writeRefusal, afterWriting};
 ghost use Rattle.record.specs.FrequencyRate.{rateUnits, rateAnswer};
 ghost use Rattle.record.specs.Shown.{shownHeader, shownRate};
 use header::Header;
@@ -103,46 +104,103 @@ fn first_of(
     0
 }
 
+// The refusal of a record of this many bytes with these values of its header, whose decimal fields are decimal or not.
+fn judge_values(
+    bytes: usize,
+    words: u64,
+    conversion: u64,
+    compression: u64,
+    hz: u64,
+    tape: u64,
+    number: u64,
+    year: u64,
+    day: u64,
+    tag: u64,
+    readback_tag: u64,
+    decimals: bool,
+    origin: u64,
+    sync: u64,
+) -> u8
+    ensures { λ r. ⌜ r ≡ first (checksOn (rateOf hz) bytes words conversion compression tape number year day tag «readback_tag» decimals origin sync) ⌝ }
+{
+    let rate = rates::rate_of(hz);
+    first_of(
+        bytes < HEADER_BYTES,
+        wrong_length(bytes, words),
+        conversion == 1,
+        compression != 1,
+        rate.0 == 0,
+        (words != rate.4) & (words != rate.5),
+        (tape == 0) | (number == 0),
+        (year > 99) | ((day == 0) | (day > 366)),
+        (tag > LAST_MS) | (readback_tag > LAST_MS),
+        !decimals,
+        (origin == 1) & (sync != SYNC_WORD),
+    )
+}
+
 // The refusal of a record of this many bytes with this header, whose decimal fields are decimal or not.
 fn judge(bytes: usize, h: Header, decimals: bool) -> u8
     ensures { λ r. ⌜ r ≡ first (checks bytes h decimals) ⌝ }
 {
-    let rate = rates::rate_of(h.sample_rate_hz);
-    let words = h.length_words;
-    first_of(
-        bytes < HEADER_BYTES,
-        wrong_length(bytes, words),
-        h.conversion == 1,
-        h.compression != 1,
-        rate.0 == 0,
-        (words != rate.4) & (words != rate.5),
-        (h.tape_number == 0) | (h.record_number == 0),
-        (h.year > 99) | ((h.day == 0) | (h.day > 366)),
-        (h.time_tag_ms > LAST_MS) | (h.readback_tag_ms > LAST_MS),
-        !decimals,
-        (h.clock_origin == 1) & (h.sync_word != SYNC_WORD),
+    judge_values(
+        bytes,
+        h.length_words,
+        h.conversion,
+        h.compression,
+        h.sample_rate_hz,
+        h.tape_number,
+        h.record_number,
+        h.year,
+        h.day,
+        h.time_tag_ms,
+        h.readback_tag_ms,
+        decimals,
+        h.clock_origin,
+        h.sync_word,
     )
 }
 
-// The refusal of the bytes as a record, 1 to 11, or 0 where they are accepted.
+// The refusal of the bytes as a record. Only the fields that it judges are read.
+fn judge_bytes(bytes: &[u8]) -> u8
+    ensures { λ r. ⌜ r ≡ recordRefusal (now (bytes .entry)) ⌝ }
+{
+    judge_values(
+        bytes.len(),
+        fields::read_field(bytes, header::LENGTH_WORDS),
+        fields::read_field(bytes, header::CONVERSION),
+        fields::read_field(bytes, header::COMPRESSION),
+        fields::read_field(bytes, header::SAMPLE_RATE_HZ),
+        fields::read_field(bytes, header::TAPE_NUMBER),
+        fields::read_field(bytes, header::RECORD_NUMBER),
+        fields::read_field(bytes, header::YEAR),
+        fields::read_field(bytes, header::DAY),
+        fields::read_field(bytes, header::TIME_TAG_MS),
+        fields::read_field(bytes, header::READBACK_TAG_MS),
+        header::good_digits(bytes),
+        fields::read_field(bytes, header::CLOCK_ORIGIN),
+        fields::read_field(bytes, header::SYNC_WORD),
+    )
+}
+
+// The refusal of the bytes as a record, 1 to 11, or 0 where they are accepted. The length is tested first, so that no field past
+// this test has to be.
 pub fn accept(bytes: &[u8]) -> u8
     ensures { λ r. ⌜ r ≡ recordRefusal (now (bytes .entry)) ⌝ }
 {
-    judge(
-        bytes.len(),
-        header::read_fields(bytes),
-        header::good_digits(bytes),
-    )
+    if bytes.len() < HEADER_BYTES {
+        return 1;
+    }
+    judge_bytes(bytes)
 }
 
 // The header of a record.
 pub fn read_header(bytes: &[u8]) -> HeaderAnswer
     ensures { λ r. ⌜ shownHeader r ≡ headerAnswer (now (bytes .entry)) ⌝ }
 {
-    let h = header::read_fields(bytes);
-    let n = judge(bytes.len(), h, header::good_digits(bytes));
+    let n = accept(bytes);
     if n == 0 {
-        return HeaderAnswer::Accepted(h);
+        return HeaderAnswer::Accepted(header::read_fields(bytes));
     }
     HeaderAnswer::Refused(n)
 }

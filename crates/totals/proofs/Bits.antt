@@ -7,7 +7,7 @@ use native.Mathlib.Omega.{arith}
 use lib.IntN.{ℤ, pos, negsuc, natAbs, subℕ, _+ℤ_, _*ℤ_}
 use lib.Signed.{mag, ltZ}
 use lib.Dec.{T, ltb, ltb→lt}
-use mir.Syntax.{Width, w8, w32}
+use mir.Syntax.{Width, w8, w64}
 use mir.Val.{SFits, toZ, ofZ}
 use mir.Facts.{toZ-ofZ}
 
@@ -43,9 +43,9 @@ pub square : (z : ℤ) → z *ℤ z ≡ pos (natAbs z * natAbs z)
 square (pos n) = refl
 square (negsuc n) = refl
 
--- the code's square of a signed byte fits its 32 bits
-pub square-fits : {z : ℤ} → SFits w8 z → SFits w32 (z *ℤ z)
-square-fits {z} h = subst (SFits w32) (sym (square z)) (record { sfits = omega (arith, byte-square h) })
+-- the square of a signed byte fits 64 bits
+pub square-fits : {z : ℤ} → SFits w8 z → SFits w64 (z *ℤ z)
+square-fits {z} h = subst (SFits w64) (sym (square z)) (record { sfits = omega (arith, byte-square h) })
 
 -- a byte widened, as the code has it
 pub widens : (w : Width) {z : ℤ} → SFits w z → SFits w8 z → toZ w (ofZ w (toZ w8 (ofZ w8 z))) ≡ z

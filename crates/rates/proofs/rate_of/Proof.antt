@@ -1,61 +1,52 @@
--- The search through the lines: the invariant says that the line is still to be found among the rest. Assumes nothing.
-use mathlib.Core.Path.{_≡_, refl, sym, _∙_}
-use Prim.Native.Nat.{_≤_, _-_}
-use lib.ListN.{drop}
+-- The branches in the order of the table's lines: a branch taken gives the line, one left leaves the rest of the table. Assumes nothing.
+use mathlib.Core.Path.{_≡_, refl, sym, ap, _∙_}
 use borrow.Author.Needs.{needs}
 use Rattle.rates.specs.Rates.{rates, lineIn, rateOf}
-use Rattle.rates.proofs.Lines.{found, passed, none-left}
+use Rattle.rates.proofs.Lines.{passed}
 use Rattle.rates.proofs.rate_of.Statement.{statement}
 use Rattle.rates.proofs.rate_of.Tie as tie
 
-abbrev Inv-loop : tie.InvT-loop
-Inv-loop hz k₀ k = (k ≤ 7) × (lineIn (drop k rates) hz ≡ rateOf hz)
+returns : tie.Need-returns
+unfolding rateOf lineIn
+returns c = sym (ap rateOf (c .if1 .taken))
 
-abbrev μ-loop : tie.MeasureT-loop
-μ-loop hz k₀ k = 7 - k
+returns-2 : tie.Need-returns-2
+unfolding rateOf lineIn
+returns-2 c = sym (ap rateOf (c .if2 .taken))
 
-loop-holds : tie.Need-loop-holds Inv-loop μ-loop
-unfolding rateOf
-loop-holds c = (search needs, refl)
+returns-3 : tie.Need-returns-3
+unfolding rateOf lineIn
+returns-3 c = sym (ap rateOf (c .if3 .taken))
 
-mul-line : tie.Need-mul-line Inv-loop μ-loop
-mul-line c = search needs
+returns-4 : tie.Need-returns-4
+unfolding rateOf lineIn
+returns-4 c = sym (ap rateOf (c .if4 .taken))
 
-array-copy-out-line : tie.Need-array-copy-out-line Inv-loop μ-loop
-array-copy-out-line c = search needs
+returns-5 : tie.Need-returns-5
+unfolding rateOf lineIn
+returns-5 c = sym (ap rateOf (c .if5 .taken))
 
-returns : tie.Need-returns Inv-loop μ-loop
-returns c =
-    let l = c .before .before .before .before in
-    sym (found rates (l .before .args .hz) (l .loop .k) (search needs) (c .if1 .taken)) ∙ l .loop .inv .1
+returns-6 : tie.Need-returns-6
+unfolding rateOf lineIn
+returns-6 c = sym (ap rateOf (c .if6 .taken))
 
-add-k : tie.Need-add-k Inv-loop μ-loop
-add-k c = search needs
+returns-7 : tie.Need-returns-7
+unfolding rateOf lineIn
+returns-7 c = sym (ap rateOf (c .if7 .taken))
 
-loop-less : tie.Need-loop-less Inv-loop μ-loop
-loop-less c = search needs
-
-loop-again : tie.Need-loop-again Inv-loop μ-loop
-loop-again c =
-    let l = c .before .before .before .before in
-    (search needs, passed rates (l .before .args .hz) (l .loop .k) (search needs) (c .if1 .left) ∙ l .loop .inv .1)
-
-returns-2 : tie.Need-returns-2 Inv-loop μ-loop
-returns-2 c =
-    let l = c .before in
-    sym (none-left rates (l .before .args .hz) (l .loop .k) (search needs)) ∙ l .loop .inv .1
+returns-8 : tie.Need-returns-8
+unfolding rateOf lineIn
+returns-8 c =
+    let hz = c .before .before .before .before .before .before .before .args .hz in
+    passed rates hz 6 (search needs) (λ e. c .if7 .left (sym e))
+    ∙ passed rates hz 5 (search needs) (λ e. c .before .if6 .left (sym e))
+    ∙ passed rates hz 4 (search needs) (λ e. c .before .before .if5 .left (sym e))
+    ∙ passed rates hz 3 (search needs) (λ e. c .before .before .before .if4 .left (sym e))
+    ∙ passed rates hz 2 (search needs) (λ e. c .before .before .before .before .if3 .left (sym e))
+    ∙ passed rates hz 1 (search needs) (λ e. c .before .before .before .before .before .if2 .left (sym e))
+    ∙ passed rates hz 0 (search needs) (λ e. c .before .before .before .before .before .before .if1 .left (sym e))
 
 pub rate-of-spec : {M : Type 1} → statement M
 rate-of-spec =
     tie.close
-    (tie.spec
-    Inv-loop
-    μ-loop
-    loop-holds
-    mul-line
-    array-copy-out-line
-    returns
-    add-k
-    loop-less
-    loop-again
-    returns-2)
+    (tie.spec returns returns-2 returns-3 returns-4 returns-5 returns-6 returns-7 returns-8)

@@ -1,23 +1,27 @@
--- The header that was read and its digits are judged. Assumes nothing.
+-- Fewer bytes than a header's are refusal 1, the first check. Assumes nothing.
+use Prim.Native.Nat.{ℕ}
+use mathlib.Core.Path.{_≡_, sym, ap}
+use mathlib.Core.Bool.{Bool, true, cond}
+use lib.ListN.{length}
 use denote.Ref.{now}
-use Rattle.record.proofs.Judging.{of-bytes}
+use borrow.Author.Tests.{lt-ltb}
 use borrow.Author.Needs.{needs}
+use Rattle.record.specs.Record.{recordRefusal}
 use Rattle.record.proofs.accept.Statement.{statement}
 use Rattle.record.proofs.accept.Tie as tie
 
-read-fields-requires : tie.Need-read-fields-requires
-read-fields-requires c κs = search needs
-
-good-digits-requires : tie.Need-good-digits-requires
-good-digits-requires c κs = search needs
-
-judge-requires : tie.Need-judge-requires
-judge-requires c κs = search needs
+applied : (t : Bool) (n m : ℕ) → t ≡ true → n ≡ cond t n m
+applied t n m e = sym (ap (λ (s : Bool). cond s n m) e)
 
 returns : tie.Need-returns
-returns c =
-    let g = c .before in
-    of-bytes (now (g .before .before .before .args .bytes)) (c .judge .ensures) (g .before .read-fields .ensures) (g .good-digits .ensures)
+unfolding recordRefusal
+returns c = applied _ _ _ (lt-ltb _ _ (c .if1 .taken))
+
+judge-bytes-requires : tie.Need-judge-bytes-requires
+judge-bytes-requires c κs = search needs
+
+returns-2 : tie.Need-returns-2
+returns-2 c = search needs
 
 pub accept-spec : {M : Type 1} → statement M
-accept-spec = tie.close (tie.spec read-fields-requires good-digits-requires judge-requires returns)
+accept-spec = tie.close (tie.spec returns judge-bytes-requires returns-2)

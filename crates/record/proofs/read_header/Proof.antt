@@ -3,7 +3,6 @@ use Prim.Native.Nat.{ℕ}
 use mathlib.Core.Path.{_∙_, ap, sym}
 use mathlib.Core.List.{List, []}
 use denote.Ref.{now}
-use Rattle.record.proofs.Judging.{of-bytes}
 use Rattle.fields.specs.Table.{readAll}
 use Rattle.header.specs.Format.{fields}
 use Rattle.header.specs.Header.{values}
@@ -15,34 +14,27 @@ use borrow.Author.Needs.{needs}
 use Rattle.record.proofs.read_header.Statement.{statement}
 use Rattle.record.proofs.read_header.Tie as tie
 
+accept-requires : tie.Need-accept-requires
+accept-requires c κs = search needs
+
 read-fields-requires : tie.Need-read-fields-requires
 read-fields-requires c κs = search needs
-
-good-digits-requires : tie.Need-good-digits-requires
-good-digits-requires c κs = search needs
-
-judge-requires : tie.Need-judge-requires
-judge-requires c κs = search needs
 
 returns : tie.Need-returns
 unfolding headerAnswer
 returns c =
-    let j = c .before in
-    let g = j .before in
-    let b = now (g .before .before .before .args .bytes) in
-    let e = of-bytes b (j .judge .ensures) (g .before .read-fields .ensures) (g .good-digits .ensures) in
-    ap (λ (v : List ℕ). accepted v) (ap values (g .before .read-fields .ensures) ∙ values-header b)
-    ∙ unless-none (recordRefusal b) [] (readAll fields b) (sym e ∙ c .if1 .taken)
+    let a = c .before .before in
+    let b = now (a .before .before .args .bytes) in
+    ap (λ (v : List ℕ). accepted v) (ap values (c .read-fields .ensures) ∙ values-header b)
+    ∙ unless-none (recordRefusal b) [] (readAll fields b) (sym (a .accept .ensures) ∙ c .before .if1 .taken)
 
 returns-2 : tie.Need-returns-2
 unfolding headerAnswer
 returns-2 c =
-    let j = c .before in
-    let g = j .before in
-    let b = now (g .before .before .before .args .bytes) in
-    let e = of-bytes b (j .judge .ensures) (g .before .read-fields .ensures) (g .good-digits .ensures) in
+    let a = c .before in
+    let b = now (a .before .before .args .bytes) in
+    let e = a .accept .ensures in
     ap (λ (n : ℕ). refused [] n) e ∙ unless-some (recordRefusal b) [] (readAll fields b) (λ z. c .if1 .left (e ∙ z))
 
 pub read-header-spec : {M : Type 1} → statement M
-read-header-spec =
-    tie.close (tie.spec read-fields-requires good-digits-requires judge-requires returns returns-2)
+read-header-spec = tie.close (tie.spec accept-requires read-fields-requires returns returns-2)
