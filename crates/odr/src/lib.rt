@@ -22,7 +22,6 @@ ghost use Rattle.lent.specs.Values.{openingValues, openingFrom, stretchTotals, 
 use index_ask::TestAnswer;
 use index_open::OpenAnswer;
 use listing::ListAnswer;
-use record::HeaderAnswer;
 use record::RateAnswer;
 use reel::Step;
 use text::Put;
@@ -44,14 +43,14 @@ pub extern "C" fn odr_read_header(bytes: &[u8], values: &mut [u64]) -> u8
     ensures { λ r. ⌜ r ≡ headerAnswer (now (bytes .entry)) .number ⌝ }
     ensures { λ _. ⌜ now (values .exit) ≡ placed (now (values .entry)) (headerAnswer (now (bytes .entry)) .value) ⌝ }
 {
-    match record::read_header(bytes) {
-        HeaderAnswer::Accepted(h) => {
-            let listed = header::listed(h);
-            lent::put_numbers(values, &listed);
-            0
-        }
-        HeaderAnswer::Refused(n) => n,
+    // The values as they are read, not by way of a `Header`, which would be copied twice.
+    let n = record::accept(bytes);
+    if n != 0 {
+        return n;
     }
+    let read = header::read_values(bytes);
+    lent::put_numbers(values, &read);
+    0
 }
 
 #[no_mangle]

@@ -1,0 +1,30 @@
+//! Benchmarks of the library, called as C calls it, against plain Rust in the same process (docs/BENCHMARKS.md). It prints what it saw
+//! and whether a goal was met; only an answer that differs between the two makes it fail.
+
+mod agree;
+mod clock;
+mod index;
+mod plain;
+mod records;
+mod table;
+
+use second::gen::Rng;
+
+const SEED: u64 = 1985;
+
+const METHOD: &str = "\
+Both are built for release and take turns in one process, by the clock of the thread's own time. Times are medians of 101 rounds,
+or of 31 where a call takes longer than a tenth of a second; a round is a batch of at least 1 ms. A ratio is the median of the
+rounds' ratios, and the middle half of them is given. Records are in memory before a call. Hot is one record again and again,
+distinct is 10,000 of them in turn, for calls that write to a record 5,000. Buffers for answers are not cleared before a call, which
+overwrites them; what it copies out to them is in its time. So is, for a record put, that its number and time tag are set first.";
+
+fn main() {
+    let mut rng = Rng(SEED);
+    let (cases, accepted) = agree::check(&mut rng);
+    println!("The library and plain Rust gave the same answers for {cases} inputs, {accepted} of them accepted records.");
+    println!("{METHOD}");
+    let mut pool = records::Pool::new(&mut rng);
+    records::measure(&mut pool);
+    index::measure(&mut rng, &mut pool);
+}

@@ -1,0 +1,107 @@
+//! Calls on records, measured against plain Rust: totals, acceptance and header, samples out and in, the header written.
+
+use crate::agree::{parts, parts_mut, Channels, Totals};
+use crate::clock::versus;
+use crate::plain::{header, samples, totals, write};
+use crate::table::{head, row, Goal};
+use compare::odr;
+use second::gen::{self, Rng};
+use second::record::RATES;
+use std::hint::black_box;
+use std::ops::Range;
+
+const BYTES: usize = 4_390;
+/// The samples of a record of that length.
+const STRETCH: Range<usize> = 80..4_080;
+const COUNT: usize = 1_000;
+/// Records of the pool, and of each of its halves.
+const RECORDS: usize = 10_000;
+const HALF: usize = RECORDS / 2;
+const TOTALS: Goal = Goal { most: 1.0, limit: Some(1.5) };
+const HEADER: Goal = Goal { most: 1.5, limit: None };
+
+/// Records of one reel, OP-B at 50,000 samples a second, in one piece of memory. Their samples are random, and so are their fields but
+/// for those of the reel.
+pub struct Pool(Vec<u8>);
+
+impl Pool {
+    pub fn new(rng: &mut Rng) -> Self {
+        let pattern = gen::record_with(rng, RATES[0], BYTES as u64 / 2);
+        let record = |_| {
+            let mut r = gen::record_with(rng, RATES[0], BYTES as u64 / 2);
+            r[1] = pattern[1];
+            r[8..12].copy_from_slice(&pattern[8..12]);
+            r
+        };
+        Pool((0..RECORDS).flat_map(record).collect())
+    }
+
+    /// Record i, over and over.
+    pub fn at(&self, i: usize) -> &[u8] {
+        &self.0[i % RECORDS * BYTES..][..BYTES]
+    }
+
+    pub fn at_mut(&mut self, i: usize) -> &mut [u8] {
+        &mut self.0[i % RECORDS * BYTES..][..BYTES]
+    }
+}
+
+/// Measures a call on one record, then on distinct ones. The two programs are half of the pool apart, so that none finds what the
+/// other has just read.
+fn hot_and_distinct<A, B>(
+    name: &str,
+    goal: Option<Goal>,
+    pool: &Pool,
+    mut library: impl FnMut(&[u8]) -> A,
+    mut rust: impl FnMut(&[u8]) -> B,
+) {
+    let one = pool.at(0);
+    let hot = versus(|_| library(black_box(one)), |_| rust(black_box(one)));
+    row(&format!("{name}, hot"), &hot, goal);
+    let distinct = versus(|i| library(black_box(pool.at(i))), |i| rust(black_box(pool.at(i + HALF))));
+    row(&format!("{name}, distinct"), &distinct, goal);
+}
+
+fn measure_reading(pool: &Pool) {
+    let mut out = Totals::default();
+    let library = |r: &[u8]| out.take(&r[STRETCH]);
+    hot_and_distinct("record totals, 4,000 bytes of samples", Some(TOTALS), pool, library, |r| totals::totals(&r[STRETCH]));
+    let mut values = [0; 46];
+    let library = |r: &[u8]| odr::read_header(r, &mut values);
+    hot_and_distinct("acceptance and header, 46 numbers", Some(HEADER), pool, library, header::read_header);
+    hot_and_distinct("acceptance alone", Some(HEADER), pool, odr::accept, header::accept);
+    let mut channels = [(); 2].map(|_| [(); 4].map(|_| vec![0; COUNT]));
+    let [ours, theirs] = &mut channels;
+    let library = |r: &[u8]| odr::read_samples(r, parts_mut(ours));
+    hot_and_distinct("samples out, 4 x 1,000", None, pool, library, |r| samples::read_samples(r, parts_mut(theirs)));
+}
+
+/// Record i of a half of the pool; `step` 0 is one record again and again.
+fn nth(half: &mut [u8], i: usize, step: usize) -> &mut [u8] {
+    black_box(&mut half[i * step % HALF * BYTES..][..BYTES])
+}
+
+/// Calls that write one record's samples, or its header, into others; each program has its half of the pool.
+fn measure_writing(pool: &mut Pool) {
+    let mut channels: Channels = [(); 4].map(|_| vec![0; COUNT]);
+    assert_eq!(odr::read_samples(pool.at(1), parts_mut(&mut channels)), 0);
+    let mut header = header::read_header(pool.at(1)).expect("an accepted record");
+    let values: Vec<u64> = header.numbers().into_iter().map(|value| *value).collect();
+    let (ours, theirs) = pool.0.split_at_mut(HALF * BYTES);
+    for (kind, step) in [("hot", 0), ("distinct", 1)] {
+        let library = |i: usize| odr::write_samples(nth(ours, i, step), parts(&channels));
+        let rust = |i: usize| samples::write_samples(nth(theirs, i, step), parts(&channels));
+        row(&format!("samples in, 4 x 1,000, {kind}"), &versus(library, rust), None);
+    }
+    for (kind, step) in [("hot", 0), ("distinct", 1)] {
+        let library = |i: usize| odr::write_header(nth(ours, i, step), black_box(&values));
+        let rust = |i: usize| write::write_header(nth(theirs, i, step), black_box(&header));
+        row(&format!("header written, 46 numbers, {kind}"), &versus(library, rust), None);
+    }
+}
+
+pub fn measure(pool: &mut Pool) {
+    head("One record of 4,390 bytes", "library, ns", "Rust, ns", "ratio");
+    measure_reading(pool);
+    measure_writing(pool);
+}
