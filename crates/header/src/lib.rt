@@ -217,75 +217,75 @@ fn short_values(bytes: &[u8]) -> [u64; 46]
     values
 }
 
-// The header, each field by its name: an index into the table would write the table to memory first.
-fn whole_fields(bytes: &[u8]) -> Header
-    ensures { λ r. ⌜ r ≡ headerOf (now (bytes .entry)) ⌝ }
+// The values of the fields, each named: an index into the table would write the table to memory first.
+fn whole_values(bytes: &[u8]) -> [u64; 46]
+    ensures { λ r. ⌜ r ≡ readAll fields (now (bytes .entry)) ⌝ }
 {
-    Header {
-        clock_origin: fields::read_field(bytes, CLOCK_ORIGIN),
-        session_start: fields::read_field(bytes, SESSION_START),
-        copy_error: fields::read_field(bytes, COPY_ERROR),
-        conversion: fields::read_field(bytes, CONVERSION),
-        compression: fields::read_field(bytes, COMPRESSION),
-        tape_number: fields::read_field(bytes, TAPE_NUMBER),
-        record_number: fields::read_field(bytes, RECORD_NUMBER),
-        length_words: fields::read_field(bytes, LENGTH_WORDS),
-        prime_fea: fields::read_field(bytes, PRIME_FEA),
-        secondary_fea: fields::read_field(bytes, SECONDARY_FEA),
-        spacecraft: fields::read_field(bytes, SPACECRAFT),
-        spc: fields::read_field(bytes, SPC),
-        year: fields::read_field(bytes, YEAR),
-        day: fields::read_field(bytes, DAY),
-        time_tag_ms: fields::read_field(bytes, TIME_TAG_MS),
-        predict_0: fields::read_field(bytes, PREDICT_0),
-        predict_1: fields::read_field(bytes, PREDICT_1),
-        predict_2: fields::read_field(bytes, PREDICT_2),
-        predict_3: fields::read_field(bytes, PREDICT_3),
-        predict_4: fields::read_field(bytes, PREDICT_4),
-        predict_5: fields::read_field(bytes, PREDICT_5),
-        predict_6: fields::read_field(bytes, PREDICT_6),
-        predict_7: fields::read_field(bytes, PREDICT_7),
-        predict_8: fields::read_field(bytes, PREDICT_8),
-        predict_9: fields::read_field(bytes, PREDICT_9),
-        status: fields::read_field(bytes, STATUS),
-        readback_uhz: fields::read_field(bytes, READBACK_UHZ),
-        readback_tag_ms: fields::read_field(bytes, READBACK_TAG_MS),
-        calculated_uhz: fields::read_field(bytes, CALCULATED_UHZ),
-        filter: fields::read_field(bytes, FILTER),
-        update_tag_ms: fields::read_field(bytes, UPDATE_TAG_MS),
-        rate_digits: fields::read_field(bytes, RATE_DIGITS),
-        rate_power: fields::read_field(bytes, RATE_POWER),
-        rate_sign: fields::read_field(bytes, RATE_SIGN),
-        phase_1: fields::read_field(bytes, PHASE_1),
-        phase_2: fields::read_field(bytes, PHASE_2),
-        selector_1: fields::read_field(bytes, SELECTOR_1),
-        selector_2: fields::read_field(bytes, SELECTOR_2),
-        selector_3: fields::read_field(bytes, SELECTOR_3),
-        selector_4: fields::read_field(bytes, SELECTOR_4),
-        counter_tag_ms: fields::read_field(bytes, COUNTER_TAG_MS),
-        sample_rate_hz: fields::read_field(bytes, SAMPLE_RATE_HZ),
-        sync_word: fields::read_field(bytes, SYNC_WORD),
-        word_39: fields::read_field(bytes, WORD_39),
-        register_1: fields::read_field(bytes, REGISTER_1),
-        register_2: fields::read_field(bytes, REGISTER_2),
-    }
+    [
+        fields::read_field(bytes, CLOCK_ORIGIN),
+        fields::read_field(bytes, SESSION_START),
+        fields::read_field(bytes, COPY_ERROR),
+        fields::read_field(bytes, CONVERSION),
+        fields::read_field(bytes, COMPRESSION),
+        fields::read_field(bytes, TAPE_NUMBER),
+        fields::read_field(bytes, RECORD_NUMBER),
+        fields::read_field(bytes, LENGTH_WORDS),
+        fields::read_field(bytes, PRIME_FEA),
+        fields::read_field(bytes, SECONDARY_FEA),
+        fields::read_field(bytes, SPACECRAFT),
+        fields::read_field(bytes, SPC),
+        fields::read_field(bytes, YEAR),
+        fields::read_field(bytes, DAY),
+        fields::read_field(bytes, TIME_TAG_MS),
+        fields::read_field(bytes, PREDICT_0),
+        fields::read_field(bytes, PREDICT_1),
+        fields::read_field(bytes, PREDICT_2),
+        fields::read_field(bytes, PREDICT_3),
+        fields::read_field(bytes, PREDICT_4),
+        fields::read_field(bytes, PREDICT_5),
+        fields::read_field(bytes, PREDICT_6),
+        fields::read_field(bytes, PREDICT_7),
+        fields::read_field(bytes, PREDICT_8),
+        fields::read_field(bytes, PREDICT_9),
+        fields::read_field(bytes, STATUS),
+        fields::read_field(bytes, READBACK_UHZ),
+        fields::read_field(bytes, READBACK_TAG_MS),
+        fields::read_field(bytes, CALCULATED_UHZ),
+        fields::read_field(bytes, FILTER),
+        fields::read_field(bytes, UPDATE_TAG_MS),
+        fields::read_field(bytes, RATE_DIGITS),
+        fields::read_field(bytes, RATE_POWER),
+        fields::read_field(bytes, RATE_SIGN),
+        fields::read_field(bytes, PHASE_1),
+        fields::read_field(bytes, PHASE_2),
+        fields::read_field(bytes, SELECTOR_1),
+        fields::read_field(bytes, SELECTOR_2),
+        fields::read_field(bytes, SELECTOR_3),
+        fields::read_field(bytes, SELECTOR_4),
+        fields::read_field(bytes, COUNTER_TAG_MS),
+        fields::read_field(bytes, SAMPLE_RATE_HZ),
+        fields::read_field(bytes, SYNC_WORD),
+        fields::read_field(bytes, WORD_39),
+        fields::read_field(bytes, REGISTER_1),
+        fields::read_field(bytes, REGISTER_2),
+    ]
 }
 
-// The header that the bytes hold. The length is tested once, here, so that no field past this test has to be.
-pub fn read_fields(bytes: &[u8]) -> Header
-    ensures { λ r. ⌜ r ≡ headerOf (now (bytes .entry)) ⌝ }
-{
-    if bytes.len() < HEADER_BYTES {
-        return named(short_values(bytes));
-    }
-    whole_fields(bytes)
-}
-
-// The values of the fields, in the table's order.
+// The values of the fields, in the table's order. The length is tested once, here, so that no field past this test has to be.
 pub fn read_values(bytes: &[u8]) -> [u64; 46]
     ensures { λ r. ⌜ r ≡ readAll fields (now (bytes .entry)) ⌝ }
 {
-    listed(read_fields(bytes))
+    if bytes.len() < HEADER_BYTES {
+        return short_values(bytes);
+    }
+    whole_values(bytes)
+}
+
+// The header that the bytes hold.
+pub fn read_fields(bytes: &[u8]) -> Header
+    ensures { λ r. ⌜ r ≡ headerOf (now (bytes .entry)) ⌝ }
+{
+    named(read_values(bytes))
 }
 
 // The values of a header, in the table's order.
