@@ -9,7 +9,9 @@ use borrow.Author.Tests.{eq-eqb, ne-eqb}
 use Rattle.record.specs.Answer.{Answer, accepted, refused, unless}
 use Rattle.monitor.specs.Segments.{rowOf}
 use Rattle.monitor.specs.Monitor.{segmentAnswer, rowRefusal, isNew, segmentBytes}
-use Rattle.lent.specs.Lent.{placed, numbersOf, valueOr, lengthOr}
+use Rattle.reel.specs.Reel.{Found}
+use Rattle.text.specs.Text.{Shown}
+use Rattle.lent.specs.Lent.{placed, numbersOf, valueOr, lengthOr, nextOr, stepNumber, stepNext}
 use Rattle.lent.proofs.Placed.{placed-none}
 
 -- the case r of what a call gave, s
@@ -42,6 +44,14 @@ module _ {B : Type 0} (out : List B) {x a : Answer (List B)} (p : x ≡ a) where
 
   pub put-empty : x .value ≡ [] → out ≡ placed out (a .value)
   put-empty e = sym (placed-none out) ∙ ap (placed out) (sym e) ∙ put-value
+
+-- a line that was put at a place: its number, and a lent place after it
+pub line-told : {x a : Shown} → x ≡ a → (old : ℕ) → (x .refusal ≡ a .refusal) × (nextOr old x ≡ nextOr old a)
+line-told p old = (ap (λ (y : Shown). y .refusal) p, ap (nextOr old) p)
+
+-- a step along a reel: its number r, and the lent place l after it
+pub step-told : (old : ℕ) {r l : ℕ} {x a : Found} {next n : ℕ} → (r ≡ stepNumber x) × (l ≡ stepNext next old x) → x ≡ a → next ≡ n → (r ≡ stepNumber a) × (l ≡ stepNext n old a)
+step-told old f p e = (f .0 ∙ ap stepNumber p, f .1 ∙ (λ i. stepNext (e i) old (p i)))
 
 -- a value is given exactly where the number is 0
 given-at : {A : Type 0} (n : ℕ) (empty v : A) → unless n empty v .given ≡ eqb (unless n empty v .number) 0

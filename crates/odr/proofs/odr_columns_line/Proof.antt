@@ -4,9 +4,8 @@ use mathlib.Core.Path.{ap, _∙_}
 use mathlib.Core.List.{List}
 use lib.IntN.{ℤ}
 use mir.Facts.{toZ-ofZ}
-use Rattle.text.specs.Text.{Shown, shown, recordLine, putText, textAfter}
-use Rattle.lent.specs.Lent.{nextOr}
-use Rattle.odr.proofs.Answers.{in-case}
+use Rattle.text.specs.Text.{shown, recordLine, putText, textAfter}
+use Rattle.odr.proofs.Answers.{in-case, line-told}
 use borrow.Author.Needs.{needs}
 use Rattle.odr.proofs.odr_columns_line.Statement.{statement}
 use Rattle.odr.proofs.odr_columns_line.Tie as tie
@@ -32,7 +31,8 @@ returns c =
     let line : ℤ → List ℕ = λ r. recordLine (a .number) (a .first-us) (a .origin) (a .frequency-uhz) r in
     let r = toZ-ofZ (start .fits .rate-units) in
     let p = in-case shown (call .put-record-line .ensures .0) (c .before .at .given .1) ∙ ap (λ (z : ℤ). putText out (a .place) (line z)) r in
-    (ap (λ (s : Shown). s .refusal) p, (call .put-record-line .ensures .1 ∙ ap (λ (z : ℤ). textAfter out (a .place) (line z)) r, ap (nextOr (a .next .now)) p))
+    let t = line-told p (a .next .now) in
+    (t .0, (call .put-record-line .ensures .1 ∙ ap (λ (z : ℤ). textAfter out (a .place) (line z)) r, t .1))
 
 same-length-2 : tie.Need-same-length-2
 same-length-2 c = search needs
@@ -46,7 +46,8 @@ returns-2 c =
     let line : ℤ → List ℕ = λ r. recordLine (a .number) (a .first-us) (a .origin) (a .frequency-uhz) r in
     let r = toZ-ofZ (start .fits .rate-units) in
     let p = in-case shown (call .put-record-line .ensures .0) (c .enum-told .given .1) ∙ ap (λ (z : ℤ). putText out (a .place) (line z)) r in
-    (ap (λ (s : Shown). s .refusal) p, (call .put-record-line .ensures .1 ∙ ap (λ (z : ℤ). textAfter out (a .place) (line z)) r, ap (nextOr (a .next .now)) p))
+    let t = line-told p (a .next .now) in
+    (t .0, (call .put-record-line .ensures .1 ∙ ap (λ (z : ℤ). textAfter out (a .place) (line z)) r, t .1))
 
 pub odr-columns-line-spec : {M : Type 1} → statement M
 odr-columns-line-spec =

@@ -1,8 +1,6 @@
 -- `odr::odr_header_line` meets its contract. Assumes nothing.
-use mathlib.Core.Path.{ap}
-use Rattle.text.specs.Text.{Shown, shown}
-use Rattle.lent.specs.Lent.{nextOr}
-use Rattle.odr.proofs.Answers.{in-case}
+use Rattle.text.specs.Text.{shown}
+use Rattle.odr.proofs.Answers.{in-case, line-told}
 use borrow.Author.Needs.{needs}
 use Rattle.odr.proofs.odr_header_line.Statement.{statement}
 use Rattle.odr.proofs.odr_header_line.Tie as tie
@@ -22,8 +20,8 @@ same-length c = search needs
 returns : tie.Need-returns
 returns c =
     let call = c .before .before .before .before .before in
-    let p = in-case shown (call .put-header-line .ensures .0) (c .before .at .given .1) in
-    (ap (λ (s : Shown). s .refusal) p, (call .put-header-line .ensures .1, ap (nextOr (call .before .before .before .args .next .now)) p))
+    let t = line-told (in-case shown (call .put-header-line .ensures .0) (c .before .at .given .1)) (call .before .before .before .args .next .now) in
+    (t .0, (call .put-header-line .ensures .1, t .1))
 
 same-length-2 : tie.Need-same-length-2
 same-length-2 c = search needs
@@ -31,8 +29,8 @@ same-length-2 c = search needs
 returns-2 : tie.Need-returns-2
 returns-2 c =
     let call = c .before .before .before .before in
-    let p = in-case shown (call .put-header-line .ensures .0) (c .enum-told .given .1) in
-    (ap (λ (s : Shown). s .refusal) p, (call .put-header-line .ensures .1, ap (nextOr (call .before .before .before .args .next .now)) p))
+    let t = line-told (in-case shown (call .put-header-line .ensures .0) (c .enum-told .given .1)) (call .before .before .before .args .next .now) in
+    (t .0, (call .put-header-line .ensures .1, t .1))
 
 pub odr-header-line-spec : {M : Type 1} → statement M
 odr-header-line-spec =
