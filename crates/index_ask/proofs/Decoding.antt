@@ -7,7 +7,7 @@ use mathlib.Core.Logic.{⊎-elim}
 use native.Mathlib.Nat.{mul-le-mul}
 use native.Mathlib.Omega.{arith}
 use lib.Dec.{ltb}
-use lib.IntN.{pos, negsuc, _-ℤ_}
+use lib.IntN.{ℤ, pos, negsuc, natAbs, _-ℤ_}
 use lib.ListN.{getD}
 use borrow.Author.Tests.{eq-eqb, ne-eqb}
 use mir.Syntax.{w64}
@@ -20,6 +20,7 @@ use Rattle.totals.specs.Total.{noTotal}
 use Rattle.index_model.specs.Calls.{channelShown, totalFrom}
 use Rattle.index_model.proofs.Differences.{minus-sub}
 use Rattle.index_ask.specs.Inner.{sampleLimit}
+use Rattle.index_ask.specs.Exact.{exactLimit, ExactTotal}
 
 -- ## counts
 
@@ -42,6 +43,13 @@ difference-fits a b p q = subst (SFits w64) (sym (minus-sub a b)) (by-test (ltb 
     by-test true = record { sfits = omega arith }
     by-test false = record { sfits = omega arith }
 
+difference-exact : (a b : ℕ) → a < 4294967296 → b ≤ 128 * sampleLimit → natAbs (pos a -ℤ pos b) ≤ exactLimit
+difference-exact a b p q = subst (λ (z : ℤ). natAbs z ≤ exactLimit) (sym (minus-sub a b)) (by-test (ltb a b))
+  where
+    by-test : (t : Bool) → natAbs (cond t (negsuc (b - suc a)) (pos (a - b))) ≤ exactLimit
+    by-test true = omega arith
+    by-test false = omega arith
+
 module _ (x count : ℕ) (p : x < 4294967296) (q : count ≤ sampleLimit) where
   read : toZ w64 x -ℤ toZ w64 (128 * count) ≡ pos x -ℤ pos (128 * count)
   read = λ t. toZ-pos w64 x (omega arith) t -ℤ toZ-pos w64 (128 * count) (omega arith) t
@@ -51,6 +59,9 @@ module _ (x count : ℕ) (p : x < 4294967296) (q : count ≤ sampleLimit) where
 
   pub sum-read : toZ w64 (ofZ w64 (toZ w64 x -ℤ toZ w64 (128 * count))) ≡ pos x -ℤ pos (128 * count)
   sum-read = toZ-ofZ w64 (toZ w64 x -ℤ toZ w64 (128 * count)) sum-fits ∙ read
+
+  pub sum-exact : natAbs (toZ w64 (ofZ w64 (toZ w64 x -ℤ toZ w64 (128 * count)))) ≤ exactLimit
+  sum-exact = subst (λ (z : ℤ). natAbs z ≤ exactLimit) (sym sum-read) (difference-exact x (128 * count) p (omega arith))
 
 -- ## the total
 

@@ -5,7 +5,7 @@ ghost use mathlib.Core.Bool.{not, _||_};
 ghost use mathlib.Core.List.{[], _∷_};
 ghost use Prim.Native.Nat.{_*_, _≤_, _<_};
 ghost use lib.Dec.{eqb};
-ghost use lib.IntN.{pos, _-ℤ_};
+ghost use lib.IntN.{pos, natAbs, _-ℤ_};
 ghost use lib.ListN.{length};
 ghost use Rattle.lists.specs.Fill.{tab};
 ghost use Rattle.rates.specs.Rates.{rateOf, samplesPerRecord};
@@ -17,6 +17,7 @@ ghost use Rattle.index_model.specs.Opening.{openingRefusal, inWindow};
 ghost use Rattle.index_model.specs.Calls.{leastFrom, greatestFrom, totalFrom, keptFrom, secondShown, askAnswer, rowsInside, cellsRight, secondsRight, testAnswer};
 ghost use Rattle.index_cells.specs.Limits.{WithinLimits};
 ghost use Rattle.index_ask.specs.Inner.{sampleLimit, sameTo};
+ghost use Rattle.index_ask.specs.Exact.{exactLimit, ExactTotal, ExactTotals};
 ghost use Rattle.index_ask.specs.Shown.{shownSecond, shownTest};
 use index_cells::ERRORS;
 use index_cells::ORIGINS;
@@ -31,11 +32,12 @@ const SUM_OFFSET: u64 = 128;
 
 // A second's totals and verdict, beside the refusal. An enum cannot hold an array, so the refusal is a field; with one, every
 // other field is 0.
+#[repr(C)]
 pub struct SecondAnswer {
     pub refusal: u8,
-    pub records: u64,
-    pub origins: u64,
-    pub errors: u64,
+    pub records: u32,
+    pub origins: u32,
+    pub errors: u32,
     pub channels: [Total; 4],
     pub kept: bool,
 }
@@ -63,7 +65,7 @@ fn greatest_from(x: u32) -> i8
 // The sum of so many samples: its cell is the sum of (sample + 128).
 fn sum_from(x: u32, count: u64) -> i64
     requires { ⌜ count ≤ sampleLimit ⌝ }
-    ensures { λ r. ⌜ r ≡ pos x -ℤ pos (128 * count) ⌝ }
+    ensures { λ r. ⌜ (r ≡ pos x -ℤ pos (128 * count)) × (natAbs r ≤ exactLimit) ⌝ }
 {
     (x as i64) - ((SUM_OFFSET * count) as i64)
 }
@@ -71,7 +73,7 @@ fn sum_from(x: u32, count: u64) -> i64
 // The total of a channel (1 to 4) from the cells of a second that has so many samples of it.
 fn total_from(cells: [u32; 20], count: u64, channel: usize) -> Total
     requires { ⌜ (count ≤ sampleLimit) × (1 ≤ channel) × (channel ≤ 4) ⌝ }
-    ensures { λ r. ⌜ r ≡ totalFrom count cells channel ⌝ }
+    ensures { λ r. ⌜ (r ≡ totalFrom count cells channel) × ExactTotal r ⌝ }
 {
     if cells[RECORDS] == 0 {
         return Total {
@@ -99,7 +101,7 @@ fn is_kept(cells: [u32; 20], full: u64) -> bool
 }
 
 // The samples of each channel in so many records.
-fn sample_count(o: Opening, records: u32) -> u64
+pub fn sample_count(o: Opening, records: u32) -> u64
     ensures { λ r. ⌜ (r ≡ records * samplesPerRecord (rateOf (o .«sample_rate_hz»))) × (r ≤ sampleLimit) ⌝ }
 {
     let rate = rates::rate_of(o.sample_rate_hz);
@@ -109,7 +111,7 @@ fn sample_count(o: Opening, records: u32) -> u64
 // The totals of channels 1 to 4.
 fn totals_from(cells: [u32; 20], count: u64) -> [Total; 4]
     requires { ⌜ count ≤ sampleLimit ⌝ }
-    ensures { λ r. ⌜ r ≡ tab (totalFrom count cells) 1 4 ⌝ }
+    ensures { λ r. ⌜ (r ≡ tab (totalFrom count cells) 1 4) × ExactTotals r ⌝ }
 {
     let one = total_from(cells, count, 1);
     let two = total_from(cells, count, 2);
@@ -120,15 +122,15 @@ fn totals_from(cells: [u32; 20], count: u64) -> [Total; 4]
 
 // What the cells of a second say.
 fn second_from(o: Opening, cells: [u32; 20]) -> SecondAnswer
-    ensures { λ r. ⌜ shownSecond r ≡ accepted (secondShown o cells) ⌝ }
+    ensures { λ r. ⌜ (shownSecond r ≡ accepted (secondShown o cells)) × ExactTotals (r .channels) ⌝ }
 {
     let count = sample_count(o, cells[RECORDS]);
     let channels = totals_from(cells, count);
     SecondAnswer {
         refusal: 0,
-        records: index_cells::wide(cells[RECORDS]),
-        origins: index_cells::wide(cells[ORIGINS]),
-        errors: index_cells::wide(cells[ERRORS]),
+        records: cells[RECORDS],
+        origins: cells[ORIGINS],
+        errors: cells[ERRORS],
         channels,
         kept: is_kept(cells, index_open::full_count(o)),
     }
@@ -137,7 +139,7 @@ fn second_from(o: Opening, cells: [u32; 20]) -> SecondAnswer
 // Beside a refusal every value is 0.
 fn no_second(refusal: u8) -> SecondAnswer
     requires { ⌜ 1 ≤ refusal ⌝ }
-    ensures { λ r. ⌜ shownSecond r ≡ refused noSecond refusal ⌝ }
+    ensures { λ r. ⌜ (shownSecond r ≡ refused noSecond refusal) × ExactTotals (r .channels) ⌝ }
 {
     let none = Total {
         sum: 0,
@@ -173,9 +175,10 @@ fn judge(o: Opening, second: u64, rows: usize, seconds: usize) -> u8
     record::first_refusal(index_open::opening_refusal(o, rows, seconds), outside)
 }
 
-// A second's totals and verdict.
+// A second's totals and verdict. On any cells, a 64-bit float holds each sum and each sum of squares exactly.
 pub fn ask(o: Opening, second: u64, rows: &[u32], seconds: &[u32]) -> SecondAnswer
     ensures { λ r. ⌜ shownSecond r ≡ askAnswer o second (now (rows .entry)) (now (seconds .entry)) ⌝ }
+    ensures { λ r. ⌜ ExactTotals (r .channels) ⌝ }
 {
     let n = judge(o, second, rows.len(), seconds.len());
     if n == 0 {

@@ -1,1 +1,3 @@
-pub mod Beyond
+pub mod Quotient
+pub mod Dividing
+pub mod History

@@ -1,1 +1,3 @@
-pub mod SecondMeans
+pub mod Means
+pub mod OfLedger
+pub mod Shown

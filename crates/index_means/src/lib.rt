@@ -1,24 +1,94 @@
-// The mean and the mean square of each channel of a second that was asked for. 01, "The book": "The mean and mean square of each
-// channel ... are each one division of two whole numbers held exactly; both are 0 for no samples".
+// The mean and the mean square of each channel of a second: a question to the index, as `index_ask::ask` is. 01, "The book": "The
+// mean and mean square of each channel, kept together as 64-bit floats, are each one division of two whole numbers held exactly;
+// both are 0 for no samples". It takes any value of an opening and any cells, and changes none.
 ghost use mathlib.Core.Path.{_≡_};
-ghost use Rattle.index_means.specs.SecondMeans.{secondMeans};
-use index_ask::SecondAnswer;
+ghost use Prim.Native.Nat.{_≤_};
+ghost use Rattle.record.specs.Answer.{refused};
+ghost use Rattle.index_ask.specs.Exact.{exactLimit, ExactTotal, ExactTotals};
+ghost use Rattle.index_means.specs.Means.{noMeans, meansOf, eachMeans, noMeansEach, meansAnswer};
+ghost use Rattle.index_means.specs.Shown.{shownMeans};
 use index_model::Opening;
-use means::Means;
+use totals::Total;
 
-// Records whose samples a 64-bit float would not count exactly: far more than a second has.
-const MOST_RECORDS: u64 = 9_007_199_254_740_992;
+#[repr(C)]
+pub struct Means {
+    pub mean: f64,
+    pub mean_square: f64,
+}
 
-// The means of channels 1 to 4, by the totals of the answer and the samples of its records. A number of records that no second
-// has, as in an answer that was made up, gives 0, as the means of numbers that a float does not hold exactly do.
-pub fn second_means(o: Opening, answer: SecondAnswer) -> [Means; 4]
-    ensures { λ r. ⌜ r ≡ secondMeans o (answer .channels) (answer .records) ⌝ }
+// The means of channels 1 to 4, beside the refusal; with one, every mean is 0.
+#[repr(C)]
+pub struct MeansAnswer {
+    pub refusal: u8,
+    pub channels: [Means; 4],
+}
+
+fn no_means() -> Means
+    ensures { λ r. ⌜ r ≡ noMeans ⌝ }
 {
-    let rate = rates::rate_of(o.sample_rate_hz);
-    let channels = answer.channels;
-    let records = answer.records;
-    if records > MOST_RECORDS {
-        return means::each_means(channels, 0);
+    Means {
+        mean: 0.0,
+        mean_square: 0.0,
     }
-    means::each_means(channels, records * rate.2)
+}
+
+// Of so many samples with this total. Only numbers that a float holds exactly come here, so each division is rounded once.
+fn means_of(total: Total, count: u64) -> Means
+    requires { ⌜ ExactTotal total × (count ≤ exactLimit) ⌝ }
+    ensures { λ r. ⌜ r ≡ meansOf total count ⌝ }
+{
+    if count == 0 {
+        return no_means();
+    }
+    let sum = total.sum as f64;
+    let squares = total.squares as f64;
+    let samples = count as f64;
+    Means {
+        mean: sum / samples,
+        mean_square: squares / samples,
+    }
+}
+
+// The means of the four channels.
+fn each_means(totals: [Total; 4], count: u64) -> [Means; 4]
+    requires { ⌜ ExactTotals totals × (count ≤ exactLimit) ⌝ }
+    ensures { λ r. ⌜ r ≡ eachMeans totals count ⌝ }
+{
+    let first = totals[0];
+    let second = totals[1];
+    let third = totals[2];
+    let fourth = totals[3];
+    let first_means = means_of(first, count);
+    let second_means = means_of(second, count);
+    let third_means = means_of(third, count);
+    let fourth_means = means_of(fourth, count);
+    [first_means, second_means, third_means, fourth_means]
+}
+
+// Beside a refusal every mean is 0.
+fn no_answer(refusal: u8) -> MeansAnswer
+    requires { ⌜ 1 ≤ refusal ⌝ }
+    ensures { λ r. ⌜ shownMeans r ≡ refused noMeansEach refusal ⌝ }
+{
+    let none = no_means();
+    MeansAnswer {
+        refusal,
+        channels: [none; 4],
+    }
+}
+
+// The means of the four channels of a second, by its totals and the samples of its records.
+pub fn second_means(o: Opening, second: u64, rows: &[u32], seconds: &[u32]) -> MeansAnswer
+    ensures { λ r. ⌜ shownMeans r ≡ meansAnswer o second (now (rows .entry)) (now (seconds .entry)) ⌝ }
+{
+    let answer = index_ask::ask(o, second, rows, seconds);
+    if answer.refusal != 0 {
+        return no_answer(answer.refusal);
+    }
+    let count = index_ask::sample_count(o, answer.records);
+    let totals = answer.channels;
+    MeansAnswer {
+        refusal: 0,
+        channels: each_means(totals, count),
+    }
 }

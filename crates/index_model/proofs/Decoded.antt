@@ -53,7 +53,7 @@ joined-signed c [] = tt
 joined-signed c (b ∷ r) = bytes-append (channelSamples c b) (flatMap (channelSamples c) r) (samples-signed b c) (joined-signed c r)
 
 module _ (o : Opening) (c : ℕ) where
-  joined-length : (r : List (List ℕ)) → AllSound o r → length (flatMap (channelSamples c) r) ≡ length r * perRecord o
+  pub joined-length : (r : List (List ℕ)) → AllSound o r → length (flatMap (channelSamples c) r) ≡ length r * perRecord o
   unfolding flatMap
   joined-length [] h = omega arith
   joined-length (b ∷ r) h =

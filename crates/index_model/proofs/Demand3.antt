@@ -5,13 +5,14 @@ use Prim.Native.Nat.{ℕ}
 use mathlib.Core.Path.{_≡_, sym, subst}
 use mathlib.Core.Bool.{true}
 use mathlib.Core.List.{List}
+use Rattle.record.specs.Answer.{accepted}
 use Rattle.index_model.specs.declared.Opening.{Opening}
 use Rattle.index_model.specs.Cells.{blockAt}
 use Rattle.index_model.specs.Opening.{inWindow, placeOf, openingOf, openRefusal, openAnswer, openRows, openSeconds}
-use Rattle.index_model.specs.Calls.{secondShown, isConsistent}
+use Rattle.index_model.specs.Calls.{secondShown, isConsistent, testAnswer}
 use Rattle.index_model.specs.Ledger.{noRecords, ledgerSecond, Call}
 use Rattle.index_model.specs.History.{Cells, after, replies, ledgerAfter, ledgerReplies, EachAlters}
-use Rattle.index_model.proofs.Judging.{shown-is, consistent}
+use Rattle.index_model.proofs.Judging.{shown-is, consistent, test-answered}
 use Rattle.index_model.proofs.Steps.{after-agrees, all-answered, each-alters}
 use Rattle.index_model.proofs.Opened.{regular-empty, fine, returned, opened-agrees}
 
@@ -27,21 +28,22 @@ pub record Demand3 (o : Opening) (c : Cells) (calls : List Call) : Type 0 where
   -- every accepted put or take-out altered only its record's row and the seconds it left and joined; every other call, nothing
   pub alterations : EachAlters o calls noRecords c
 
-module _ (pattern : List ℕ) (F C R : ℕ) (rows seconds : List ℕ) (accepted : openRefusal pattern F C R rows seconds ≡ 0) (calls : List Call) where
-  abbrev start : Cells
+module _ (pattern : List ℕ) (F C R : ℕ) (rows seconds : List ℕ) (none : openRefusal pattern F C R rows seconds ≡ 0) (calls : List Call) where
+  -- the cells that opening left
+  abbrev pub start : Cells
   start = record { rows = openRows pattern F C R rows seconds; seconds = openSeconds pattern F C R rows seconds }
 
   pub demand3 : Demand3 (openAnswer pattern F C R rows seconds .value) start calls
-  demand3 = subst (λ (o : Opening). Demand3 o start calls) (sym (returned pattern F C R rows seconds accepted)) proved
+  demand3 = subst (λ (o : Opening). Demand3 o start calls) (sym (returned pattern F C R rows seconds none)) proved
     where
       o : Opening
       o = openingOf pattern F C R
 
       proved : Demand3 o start calls
       proved =
-          let fits = fine pattern F C R rows seconds accepted in
+          let fits = fine pattern F C R rows seconds none in
           let empty = regular-empty o in
-          let agree = opened-agrees pattern F C R rows seconds accepted in
+          let agree = opened-agrees pattern F C R rows seconds none in
           let end = after-agrees o fits calls noRecords start empty agree in
           record {
             answers = all-answered o fits calls noRecords start empty agree;
@@ -49,3 +51,19 @@ module _ (pattern : List ℕ) (F C R : ℕ) (rows seconds : List ℕ) (accepted 
             consistent = consistent o fits (ledgerAfter o calls noRecords) (after o calls start) (end .0) (end .1);
             alterations = each-alters o fits calls noRecords start empty agree;
           }
+
+  -- 01: "After every history it says yes."
+  abbrev SaysYes : Opening → Type 0
+  SaysYes o = testAnswer o (after o calls start .rows) (after o calls start .seconds) ≡ accepted true
+
+  pub test-says-yes : SaysYes (openAnswer pattern F C R rows seconds .value)
+  test-says-yes = subst SaysYes (sym (returned pattern F C R rows seconds none)) proved
+    where
+      o : Opening
+      o = openingOf pattern F C R
+
+      proved : SaysYes o
+      proved =
+          let fits = fine pattern F C R rows seconds none in
+          let end = after-agrees o fits calls noRecords start (regular-empty o) (opened-agrees pattern F C R rows seconds none) in
+          test-answered o fits (ledgerAfter o calls noRecords) (after o calls start) (end .0) (end .1)

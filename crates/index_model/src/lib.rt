@@ -3,6 +3,7 @@
 
 // What opening returns. It never changes and goes into every later call: the first second and the number of seconds of the
 // window, the highest record number, and the values of the pattern record that every record put must share.
+#[repr(C)]
 pub struct Opening {
     pub first_second: u64,
     pub second_count: u64,

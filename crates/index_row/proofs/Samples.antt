@@ -1,35 +1,20 @@
--- The totals of a record's sample stretch: the part that the code lends, and that they are bounded. Assumes nothing.
-use Prim.Native.Nat.{ℕ, zero, suc, _+_, _-_, _*_, _≤_}
-use mathlib.Core.Path.{_≡_, sym, subst, _∙_}
+-- The totals of a record's sample stretch are bounded. Assumes nothing.
+use Prim.Native.Nat.{ℕ, zero, suc, _≤_}
+use mathlib.Core.Path.{_≡_, sym, subst}
 use mathlib.Core.List.{List}
 use native.Mathlib.Omega.{arith}
 use lib.IntN.{ℤ}
-use lib.ListN.{length, take, drop, length-take, length-drop}
+use lib.ListN.{length}
 use mir.Syntax.{w8}
 use mir.Val.{SFits}
 use Rattle.lists.proofs.Fill.{length-tab}
 use Rattle.channels.specs.Sample.{sampleOf, samplesOf}
 use Rattle.totals.specs.declared.Total.{Total}
-use Rattle.totals.specs.Total.{totalOf, totalsOf, countOf}
+use Rattle.totals.specs.Total.{totalOf, totalsOf}
 use Rattle.totals.proofs.Samples.{samples-bytes}
 use Rattle.totals.proofs.Sums.{sum-bound, squares-bound}
 use Rattle.totals.proofs.Extremes.{least-byte, greatest-byte}
 use Rattle.index_row.specs.Row.{Bounded, AllBounded}
-
--- from byte 80, so many samples a channel
-module _ (b : List ℕ) (n : ℕ) (few : n ≤ 1000) (inside : 80 + 4 * n ≤ length b) where
-  abbrev part : List ℕ
-  part = take (80 + 4 * n - 80) (drop 80 b)
-
-  count-is : countOf part ≡ n
-  count-is =
-      let l : length part ≡ 4 * n = simp (length-take, length-drop) (omega arith) in
-      omega (arith, l)
-
-  pub part-totals : totalsOf part (countOf part) ≡ totalsOf (take (4 * n) (drop 80 b)) n
-  part-totals =
-      let e : 80 + 4 * n - 80 ≡ 4 * n = omega arith in
-      (λ i. totalsOf part (count-is i)) ∙ (λ i. totalsOf (take (e i) (drop 80 b)) n)
 
 -- a channel's total over n samples
 module _ (stretch : List ℕ) (channel n : ℕ) where

@@ -1,33 +1,97 @@
-// The library for C and Rust: its calls on numbers and buffers alone, as c/odr.h declares them. Each takes any input and answers
-// as the call that it hands on to; the numbers of an answer go out to buffers that the caller lends.
+// The library for C and Rust, as c/odr.h declares it. Each call takes any input and answers as the call that it hands on to. Numbers
+// come back in structs by value, and what opening returned goes in by value, so no buffer of numbers can be too short; beside a
+// refusal every other member is 0.
 ghost use mathlib.Core.Path.{_≡_};
-ghost use mathlib.Core.List.{[], _∷_};
-ghost use lib.ListN.{length};
+ghost use lib.ListN.{length, getD};
+ghost use Rattle.lists.specs.Fill.{tab};
 ghost use Rattle.header.specs.Header.{named};
 ghost use Rattle.record.specs.Record.{recordRefusal, headerAnswer, writeRefusal, afterWriting};
 ghost use Rattle.record.specs.FrequencyRate.{rateAnswer};
 ghost use Rattle.samples.specs.InOut.{samplesRefusal, bufferAfter, recordAfter};
+ghost use Rattle.samples.specs.Totals.{totalsAnswer, shownTotals};
 ghost use Rattle.times.specs.SampleTime.{timeAnswer};
 ghost use Rattle.times.specs.Phases.{phaseAnswer};
 ghost use Rattle.monitor.specs.Monitor.{segmentAnswer};
-ghost use Rattle.reel.specs.Reel.{stepAt, recordAt, nextPlace};
-ghost use Rattle.reel.specs.Shown.{shownStep};
-ghost use Rattle.means.specs.Means.{meansOf};
+ghost use Rattle.reel.specs.Reel.{stepAt};
 ghost use Rattle.index_model.specs.Opening.{openAnswer, openRows, openSeconds};
 ghost use Rattle.index_model.specs.Calls.{putRefusal, putRows, putSeconds, takeRefusal, takeRows, takeSeconds, askAnswer, testAnswer};
-ghost use Rattle.text.specs.Text.{headerLine, recordLine, refusedLine, putText, textAfter};
+ghost use Rattle.index_ask.specs.Shown.{shownSecond};
+ghost use Rattle.index_means.specs.Means.{meansAnswer};
+ghost use Rattle.index_means.specs.Shown.{shownMeans};
 ghost use Rattle.listing.specs.Listing.{lineAnswer, lineAfter, listAnswer, listAfter};
-ghost use Rattle.lent.specs.Lent.{placed, numbersOf, valueOr, lengthOr, nextOr, stepNumber, stepNext};
-ghost use Rattle.lent.specs.Values.{openingValues, openingFrom, stretchTotals, totalWith, channelSums, channelSquares, channelLeasts, channelGreatests, ofChannels, secondCounts, meanValues, secondMeanValues};
+ghost use Rattle.odr.specs.Out.{told, valueOr, longestSegment, PhasesTold, SegmentTold, StepTold};
+use index_ask::SecondAnswer;
 use index_ask::TestAnswer;
+use index_means::MeansAnswer;
+use index_model::Opening;
 use index_open::OpenAnswer;
 use listing::ListAnswer;
 use record::RateAnswer;
 use reel::Step;
-use text::Put;
+use samples::TotalsAnswer;
 use times::PhaseAnswer;
 use times::TimeAnswer;
-use totals::Total;
+
+// What `odr_step` answers at the end of a reel: no refusal of 01 has this number.
+const FINISHED: u8 = 255;
+
+// Bytes of the longest monitor segment, 45 words.
+const LONGEST_SEGMENT: usize = 90;
+
+// ## What comes back
+
+#[repr(C)]
+pub struct RateOut {
+    pub refusal: u8,
+    pub units: i64,
+}
+
+#[repr(C)]
+pub struct TimeOut {
+    pub refusal: u8,
+    pub microseconds: u64,
+}
+
+#[repr(C)]
+pub struct PhasesOut {
+    pub refusal: u8,
+    pub first: f64,
+    pub second: f64,
+}
+
+// The segment's bytes are the first `length` ones; 0 follows.
+#[repr(C)]
+pub struct SegmentOut {
+    pub refusal: u8,
+    pub length: usize,
+    pub bytes: [u8; LONGEST_SEGMENT],
+}
+
+// A record from `start` up to `end`; or the end of the reel, 255; or a refusal.
+#[repr(C)]
+pub struct StepOut {
+    pub answer: u8,
+    pub start: usize,
+    pub end: usize,
+}
+
+#[repr(C)]
+pub struct OpenOut {
+    pub refusal: u8,
+    pub opening: Opening,
+}
+
+#[repr(C)]
+pub struct TestOut {
+    pub refusal: u8,
+    pub consistent: bool,
+}
+
+#[repr(C)]
+pub struct TextOut {
+    pub refusal: u8,
+    pub length: usize,
+}
 
 // ## Records
 
@@ -38,69 +102,69 @@ pub extern "C" fn odr_accept(bytes: &[u8]) -> u8
     record::accept(bytes)
 }
 
+// The values as they are read, not by way of a `Header`, which would be copied twice.
 #[no_mangle]
-pub extern "C" fn odr_read_header(bytes: &[u8], values: &mut [u64]) -> u8
+pub extern "C" fn odr_read_header(bytes: &[u8], values: &mut [u64; 46]) -> u8
     ensures { λ r. ⌜ r ≡ headerAnswer (now (bytes .entry)) .number ⌝ }
-    ensures { λ _. ⌜ now (values .exit) ≡ placed (now (values .entry)) (headerAnswer (now (bytes .entry)) .value) ⌝ }
+    ensures { λ _. ⌜ now (values .exit) ≡ valueOr (now (values .entry)) (headerAnswer (now (bytes .entry))) ⌝ }
 {
-    // The values as they are read, not by way of a `Header`, which would be copied twice.
     let n = record::accept(bytes);
     if n != 0 {
         return n;
     }
-    let read = header::read_values(bytes);
-    lent::put_numbers(values, &read);
+    *values = header::read_values(bytes);
     0
 }
 
 #[no_mangle]
-pub extern "C" fn odr_write_header(bytes: &mut [u8], values: &[u64]) -> u8
+pub extern "C" fn odr_write_header(bytes: &mut [u8], values: &[u64; 46]) -> u8
     ensures { λ r. ⌜ r ≡ writeRefusal (length (now (bytes .entry))) (named (now (values .entry))) ⌝ }
     ensures { λ _. ⌜ now (bytes .exit) ≡ afterWriting (now (bytes .entry)) (named (now (values .entry))) ⌝ }
 {
-    record::write_header(bytes, lent::header_from(values))
+    record::write_header(bytes, header::named(*values))
 }
 
 #[no_mangle]
-pub extern "C" fn odr_frequency_rate(bytes: &[u8], units: &mut i64) -> u8
-    ensures { λ r. ⌜ r ≡ rateAnswer (now (bytes .entry)) .number ⌝ }
-    ensures { λ _. ⌜ now (units .exit) ≡ valueOr (now (units .entry)) (rateAnswer (now (bytes .entry))) ⌝ }
+pub extern "C" fn odr_frequency_rate(bytes: &[u8]) -> RateOut
+    ensures { λ r. ⌜ told (r .refusal) (r .units) ≡ rateAnswer (now (bytes .entry)) ⌝ }
 {
     match record::frequency_rate(bytes) {
-        RateAnswer::Units(rate) => {
-            *units = rate;
-            0
-        }
-        RateAnswer::Refused(n) => n,
+        RateAnswer::Units(units) => RateOut { refusal: 0, units },
+        RateAnswer::Refused(refusal) => RateOut { refusal, units: 0 },
     }
 }
 
 #[no_mangle]
-pub extern "C" fn odr_sample_time(bytes: &[u8], k: u64, microseconds: &mut u64) -> u8
-    ensures { λ r. ⌜ r ≡ timeAnswer (now (bytes .entry)) k .number ⌝ }
-    ensures { λ _. ⌜ now (microseconds .exit) ≡ valueOr (now (microseconds .entry)) (timeAnswer (now (bytes .entry)) k) ⌝ }
+pub extern "C" fn odr_sample_time(bytes: &[u8], k: u64) -> TimeOut
+    ensures { λ r. ⌜ told (r .refusal) (r .microseconds) ≡ timeAnswer (now (bytes .entry)) k ⌝ }
 {
     match times::sample_time(bytes, k) {
-        TimeAnswer::Microseconds(us) => {
-            *microseconds = us;
-            0
-        }
-        TimeAnswer::Refused(n) => n,
+        TimeAnswer::Microseconds(microseconds) => TimeOut {
+            refusal: 0,
+            microseconds,
+        },
+        TimeAnswer::Refused(refusal) => TimeOut {
+            refusal,
+            microseconds: 0,
+        },
     }
 }
 
 #[no_mangle]
-pub extern "C" fn odr_phases(bytes: &[u8], cycles: &mut [f64]) -> u8
-    ensures { λ r. ⌜ r ≡ phaseAnswer (now (bytes .entry)) .number ⌝ }
-    ensures { λ _. ⌜ now (cycles .exit) ≡ placed (now (cycles .entry)) (phaseAnswer (now (bytes .entry)) .value) ⌝ }
+pub extern "C" fn odr_phases(bytes: &[u8]) -> PhasesOut
+    ensures { λ r. ⌜ PhasesTold r (phaseAnswer (now (bytes .entry))) ⌝ }
 {
     match times::phases(bytes) {
-        PhaseAnswer::Cycles { first, second } => {
-            let both = [first, second];
-            lent::put_floats(cycles, &both);
-            0
-        }
-        PhaseAnswer::Refused(n) => n,
+        PhaseAnswer::Cycles { first, second } => PhasesOut {
+            refusal: 0,
+            first,
+            second,
+        },
+        PhaseAnswer::Refused(refusal) => PhasesOut {
+            refusal,
+            first: 0.0,
+            second: 0.0,
+        },
     }
 }
 
@@ -136,113 +200,87 @@ pub extern "C" fn odr_write_samples(
 }
 
 #[no_mangle]
-pub extern "C" fn odr_segment<'a>(
-    this_record: &'a [u8],
-    earlier: &'a [u8],
-    number: u64,
-    out: &mut [u8],
-    count: &mut usize,
-) -> u8
-    ensures { λ r. ⌜ r ≡ segmentAnswer (now («this_record» .entry)) (now (earlier .entry)) number .number ⌝ }
-    ensures { λ _. ⌜ now (out .exit) ≡ placed (now (out .entry)) (segmentAnswer (now («this_record» .entry)) (now (earlier .entry)) number .value) ⌝ }
-    ensures { λ _. ⌜ now (count .exit) ≡ lengthOr (now (count .entry)) (segmentAnswer (now («this_record» .entry)) (now (earlier .entry)) number) ⌝ }
+pub extern "C" fn odr_totals(bytes: &[u8]) -> TotalsAnswer
+    ensures { λ r. ⌜ shownTotals r ≡ totalsAnswer (now (bytes .entry)) ⌝ }
+{
+    samples::record_totals(bytes)
+}
+
+// The byte at a place, 0 past the end.
+fn byte_at(bytes: &[u8], k: usize) -> u8
+    ensures { λ r. ⌜ r ≡ getD (now (bytes .entry)) k 0 ⌝ }
+{
+    if k < bytes.len() {
+        return bytes[k];
+    }
+    0
+}
+
+// The bytes of a segment, and then 0.
+fn copied(bytes: &[u8]) -> [u8; LONGEST_SEGMENT]
+    ensures { λ r. ⌜ r ≡ tab (λ k. getD (now (bytes .entry)) k 0) 0 longestSegment ⌝ }
+{
+    let mut copy = [0u8; LONGEST_SEGMENT];
+    let mut k: usize = 0;
+    while k < LONGEST_SEGMENT {
+        copy[k] = byte_at(bytes, k);
+        k += 1;
+    }
+    copy
+}
+
+#[no_mangle]
+pub extern "C" fn odr_segment<'a>(this_record: &'a [u8], earlier: &'a [u8], number: u64) -> SegmentOut
+    ensures { λ r. ⌜ SegmentTold r (segmentAnswer (now («this_record» .entry)) (now (earlier .entry)) number) ⌝ }
 {
     let segment = monitor::segment(this_record, earlier, number);
-    lent::put_bytes(out, segment);
-    let refusal = monitor::segment_refusal(this_record, earlier, number);
-    if refusal == 0 {
-        *count = segment.len();
+    let bytes = copied(segment);
+    SegmentOut {
+        refusal: monitor::segment_refusal(this_record, earlier, number),
+        length: segment.len(),
+        bytes,
     }
-    refusal
 }
 
 // ## Reels
 
-// The place `after` goes out where a step is no refusal.
-fn put_next(step: Step, after: usize, next: &mut usize) -> u8
-    ensures { λ r. ⌜ r ≡ stepNumber (shownStep step) ⌝ }
-    ensures { λ _. ⌜ now (next .exit) ≡ stepNext after (now (next .entry)) (shownStep step) ⌝ }
+#[no_mangle]
+pub extern "C" fn odr_step(reel: &[u8], place: usize) -> StepOut
+    ensures { λ r. ⌜ StepTold r (stepAt (now (reel .entry)) place) ⌝ }
 {
-    match step {
-        Step::Record { start: _, end: _ } => {
-            *next = after;
-            0
-        }
-        Step::Finished => {
-            *next = after;
-            0
-        }
-        Step::Refused(n) => n,
+    match reader_calls::peek(reel, place) {
+        Step::Record { start, end } => StepOut {
+            answer: 0,
+            start,
+            end,
+        },
+        Step::Finished => StepOut {
+            answer: FINISHED,
+            start: 0,
+            end: 0,
+        },
+        Step::Refused(answer) => StepOut {
+            answer,
+            start: 0,
+            end: 0,
+        },
     }
 }
 
-#[no_mangle]
-pub extern "C" fn odr_first(reel: &[u8], next: &mut usize) -> u8
-    ensures { λ r. ⌜ r ≡ stepNumber (stepAt (now (reel .entry)) 0) ⌝ }
-    ensures { λ _. ⌜ now (next .exit) ≡ stepNext (nextPlace (now (reel .entry)) 0) (now (next .entry)) (stepAt (now (reel .entry)) 0) ⌝ }
-{
-    let after = reader_calls::next(reel, 0);
-    put_next(reader_calls::first(reel), after, next)
-}
-
-#[no_mangle]
-pub extern "C" fn odr_step(reel: &[u8], place: usize, next: &mut usize) -> u8
-    ensures { λ r. ⌜ r ≡ stepNumber (stepAt (now (reel .entry)) place) ⌝ }
-    ensures { λ _. ⌜ now (next .exit) ≡ stepNext (nextPlace (now (reel .entry)) place) (now (next .entry)) (stepAt (now (reel .entry)) place) ⌝ }
-{
-    let after = reader_calls::next(reel, place);
-    put_next(reader_calls::peek(reel, place), after, next)
-}
-
-#[no_mangle]
-pub extern "C" fn odr_record(reel: &[u8], place: usize, out: &mut [u8]) -> usize
-    ensures { λ r. ⌜ r ≡ length (recordAt (now (reel .entry)) place) ⌝ }
-    ensures { λ _. ⌜ now (out .exit) ≡ placed (now (out .entry)) (recordAt (now (reel .entry)) place) ⌝ }
-{
-    let part = reader_calls::record(reel, place);
-    lent::put_bytes(out, part);
-    part.len()
-}
-
-// ## Totals
-
-#[no_mangle]
-pub extern "C" fn odr_totals(
-    stretch: &[u8],
-    sums: &mut [i64],
-    squares: &mut [u64],
-    least: &mut [i8],
-    greatest: &mut [i8],
-)
-    ensures { λ _. ⌜ now (sums .exit) ≡ placed (now (sums .entry)) (channelSums (stretchTotals (now (stretch .entry)))) ⌝ }
-    ensures { λ _. ⌜ now (squares .exit) ≡ placed (now (squares .entry)) (channelSquares (stretchTotals (now (stretch .entry)))) ⌝ }
-    ensures { λ _. ⌜ now (least .exit) ≡ placed (now (least .entry)) (channelLeasts (stretchTotals (now (stretch .entry)))) ⌝ }
-    ensures { λ _. ⌜ now (greatest .exit) ≡ placed (now (greatest .entry)) (channelGreatests (stretchTotals (now (stretch .entry)))) ⌝ }
-{
-    lent::put_totals(
-        totals::stretch_totals(stretch),
-        sums,
-        squares,
-        least,
-        greatest,
-    );
-}
-
-#[no_mangle]
-pub extern "C" fn odr_means(sum: i64, squares: u64, count: u64, means: &mut [f64])
-    ensures { λ _. ⌜ now (means .exit) ≡ placed (now (means .entry)) (meanValues (meansOf (totalWith sum squares) count ∷ [])) ⌝ }
-{
-    let total = Total {
-        sum,
-        squares,
-        least: 0,
-        greatest: 0,
-    };
-    let both = lent::mean_pair(means::means_of(total, count));
-    lent::put_floats(means, &both);
-}
-
 // ## The index of seconds
+
+// Beside a refusal: 0 throughout.
+const NO_OPENING: Opening = Opening {
+    first_second: 0,
+    second_count: 0,
+    highest_number: 0,
+    sample_rate_hz: 0,
+    tape_number: 0,
+    year: 0,
+    day: 0,
+    spacecraft: 0,
+    spc: 0,
+};
 
 #[no_mangle]
 pub extern "C" fn odr_open(
@@ -252,12 +290,10 @@ pub extern "C" fn odr_open(
     highest_number: u64,
     rows: &mut [u32],
     seconds: &mut [u32],
-    opening: &mut [u64],
-) -> u8
-    ensures { λ r. ⌜ r ≡ openAnswer (now (pattern .entry)) «first_second» «second_count» «highest_number» (now (rows .entry)) (now (seconds .entry)) .number ⌝ }
+) -> OpenOut
+    ensures { λ r. ⌜ told (r .refusal) (r .opening) ≡ openAnswer (now (pattern .entry)) «first_second» «second_count» «highest_number» (now (rows .entry)) (now (seconds .entry)) ⌝ }
     ensures { λ _. ⌜ now (rows .exit) ≡ openRows (now (pattern .entry)) «first_second» «second_count» «highest_number» (now (rows .entry)) (now (seconds .entry)) ⌝ }
     ensures { λ _. ⌜ now (seconds .exit) ≡ openSeconds (now (pattern .entry)) «first_second» «second_count» «highest_number» (now (rows .entry)) (now (seconds .entry)) ⌝ }
-    ensures { λ _. ⌜ now (opening .exit) ≡ placed (now (opening .entry)) (numbersOf openingValues (openAnswer (now (pattern .entry)) «first_second» «second_count» «highest_number» (now (rows .entry)) (now (seconds .entry)))) ⌝ }
 {
     match index_open::open(
         pattern,
@@ -267,208 +303,105 @@ pub extern "C" fn odr_open(
         rows,
         seconds,
     ) {
-        OpenAnswer::Opened(o) => {
-            let values = lent::listed(o);
-            lent::put_numbers(opening, &values);
-            0
-        }
-        OpenAnswer::Refused(n) => n,
+        OpenAnswer::Opened(opening) => OpenOut {
+            refusal: 0,
+            opening,
+        },
+        OpenAnswer::Refused(refusal) => OpenOut {
+            refusal,
+            opening: NO_OPENING,
+        },
     }
 }
 
 #[no_mangle]
 pub extern "C" fn odr_put(
-    opening: &[u64],
+    opening: Opening,
     bytes: &[u8],
     rows: &mut [u32],
     seconds: &mut [u32],
 ) -> u8
-    ensures { λ r. ⌜ r ≡ putRefusal (openingFrom (now (opening .entry))) (now (bytes .entry)) (now (rows .entry)) (now (seconds .entry)) ⌝ }
-    ensures { λ _. ⌜ now (rows .exit) ≡ putRows (openingFrom (now (opening .entry))) (now (bytes .entry)) (now (rows .entry)) (now (seconds .entry)) ⌝ }
-    ensures { λ _. ⌜ now (seconds .exit) ≡ putSeconds (openingFrom (now (opening .entry))) (now (bytes .entry)) (now (rows .entry)) (now (seconds .entry)) ⌝ }
+    ensures { λ r. ⌜ r ≡ putRefusal opening (now (bytes .entry)) (now (rows .entry)) (now (seconds .entry)) ⌝ }
+    ensures { λ _. ⌜ now (rows .exit) ≡ putRows opening (now (bytes .entry)) (now (rows .entry)) (now (seconds .entry)) ⌝ }
+    ensures { λ _. ⌜ now (seconds .exit) ≡ putSeconds opening (now (bytes .entry)) (now (rows .entry)) (now (seconds .entry)) ⌝ }
 {
-    index::put(lent::opening_from(opening), bytes, rows, seconds)
+    index::put(opening, bytes, rows, seconds)
 }
 
 #[no_mangle]
 pub extern "C" fn odr_take_out(
-    opening: &[u64],
+    opening: Opening,
     number: u64,
     rows: &mut [u32],
     seconds: &mut [u32],
 ) -> u8
-    ensures { λ r. ⌜ r ≡ takeRefusal (openingFrom (now (opening .entry))) number (now (rows .entry)) (now (seconds .entry)) ⌝ }
-    ensures { λ _. ⌜ now (rows .exit) ≡ takeRows (openingFrom (now (opening .entry))) number (now (rows .entry)) (now (seconds .entry)) ⌝ }
-    ensures { λ _. ⌜ now (seconds .exit) ≡ takeSeconds (openingFrom (now (opening .entry))) number (now (rows .entry)) (now (seconds .entry)) ⌝ }
+    ensures { λ r. ⌜ r ≡ takeRefusal opening number (now (rows .entry)) (now (seconds .entry)) ⌝ }
+    ensures { λ _. ⌜ now (rows .exit) ≡ takeRows opening number (now (rows .entry)) (now (seconds .entry)) ⌝ }
+    ensures { λ _. ⌜ now (seconds .exit) ≡ takeSeconds opening number (now (rows .entry)) (now (seconds .entry)) ⌝ }
 {
-    index::take_out(lent::opening_from(opening), number, rows, seconds)
+    index::take_out(opening, number, rows, seconds)
 }
 
 #[no_mangle]
 pub extern "C" fn odr_ask(
-    opening: &[u64],
+    opening: Opening,
     second: u64,
     rows: &[u32],
     seconds: &[u32],
-    counts: &mut [u64],
-    sums: &mut [i64],
-    squares: &mut [u64],
-    least: &mut [i8],
-    greatest: &mut [i8],
-) -> u8
-    ensures { λ r. ⌜ r ≡ askAnswer (openingFrom (now (opening .entry))) second (now (rows .entry)) (now (seconds .entry)) .number ⌝ }
-    ensures { λ _. ⌜ now (counts .exit) ≡ placed (now (counts .entry)) (numbersOf secondCounts (askAnswer (openingFrom (now (opening .entry))) second (now (rows .entry)) (now (seconds .entry)))) ⌝ }
-    ensures { λ _. ⌜ now (sums .exit) ≡ placed (now (sums .entry)) (numbersOf (ofChannels channelSums) (askAnswer (openingFrom (now (opening .entry))) second (now (rows .entry)) (now (seconds .entry)))) ⌝ }
-    ensures { λ _. ⌜ now (squares .exit) ≡ placed (now (squares .entry)) (numbersOf (ofChannels channelSquares) (askAnswer (openingFrom (now (opening .entry))) second (now (rows .entry)) (now (seconds .entry)))) ⌝ }
-    ensures { λ _. ⌜ now (least .exit) ≡ placed (now (least .entry)) (numbersOf (ofChannels channelLeasts) (askAnswer (openingFrom (now (opening .entry))) second (now (rows .entry)) (now (seconds .entry)))) ⌝ }
-    ensures { λ _. ⌜ now (greatest .exit) ≡ placed (now (greatest .entry)) (numbersOf (ofChannels channelGreatests) (askAnswer (openingFrom (now (opening .entry))) second (now (rows .entry)) (now (seconds .entry)))) ⌝ }
+) -> SecondAnswer
+    ensures { λ r. ⌜ shownSecond r ≡ askAnswer opening second (now (rows .entry)) (now (seconds .entry)) ⌝ }
 {
-    let answer = index_ask::ask(lent::opening_from(opening), second, rows, seconds);
-    if answer.refusal != 0 {
-        return answer.refusal;
-    }
-    let each_count = lent::second_counts(answer);
-    lent::put_numbers(counts, &each_count);
-    let channels = answer.channels;
-    lent::put_totals(channels, sums, squares, least, greatest);
-    0
+    index_ask::ask(opening, second, rows, seconds)
 }
 
 #[no_mangle]
 pub extern "C" fn odr_second_means(
-    opening: &[u64],
+    opening: Opening,
     second: u64,
     rows: &[u32],
     seconds: &[u32],
-    means: &mut [f64],
-) -> u8
-    ensures { λ r. ⌜ r ≡ askAnswer (openingFrom (now (opening .entry))) second (now (rows .entry)) (now (seconds .entry)) .number ⌝ }
-    ensures { λ _. ⌜ now (means .exit) ≡ placed (now (means .entry)) (numbersOf (secondMeanValues (openingFrom (now (opening .entry)))) (askAnswer (openingFrom (now (opening .entry))) second (now (rows .entry)) (now (seconds .entry)))) ⌝ }
+) -> MeansAnswer
+    ensures { λ r. ⌜ shownMeans r ≡ meansAnswer opening second (now (rows .entry)) (now (seconds .entry)) ⌝ }
 {
-    let o = lent::opening_from(opening);
-    let answer = index_ask::ask(o, second, rows, seconds);
-    if answer.refusal != 0 {
-        return answer.refusal;
-    }
-    let each = lent::mean_values(index_means::second_means(o, answer));
-    lent::put_floats(means, &each);
-    0
+    index_means::second_means(opening, second, rows, seconds)
 }
 
 #[no_mangle]
-pub extern "C" fn odr_test(
-    opening: &[u64],
-    rows: &[u32],
-    seconds: &[u32],
-    consistent: &mut bool,
-) -> u8
-    ensures { λ r. ⌜ r ≡ testAnswer (openingFrom (now (opening .entry))) (now (rows .entry)) (now (seconds .entry)) .number ⌝ }
-    ensures { λ _. ⌜ now (consistent .exit) ≡ valueOr (now (consistent .entry)) (testAnswer (openingFrom (now (opening .entry))) (now (rows .entry)) (now (seconds .entry))) ⌝ }
+pub extern "C" fn odr_test(opening: Opening, rows: &[u32], seconds: &[u32]) -> TestOut
+    ensures { λ r. ⌜ told (r .refusal) (r .consistent) ≡ testAnswer opening (now (rows .entry)) (now (seconds .entry)) ⌝ }
 {
-    match index_ask::test(lent::opening_from(opening), rows, seconds) {
-        TestAnswer::Consistent(yes) => {
-            *consistent = yes;
-            0
-        }
-        TestAnswer::Refused(n) => n,
+    match index_ask::test(opening, rows, seconds) {
+        TestAnswer::Consistent(consistent) => TestOut {
+            refusal: 0,
+            consistent,
+        },
+        TestAnswer::Refused(refusal) => TestOut {
+            refusal,
+            consistent: false,
+        },
     }
 }
 
 // ## Text
 
 #[no_mangle]
-pub extern "C" fn odr_record_line(bytes: &[u8], text: &mut [u8], count: &mut usize) -> u8
-    ensures { λ r. ⌜ r ≡ lineAnswer (now (bytes .entry)) (now (text .entry)) .number ⌝ }
+pub extern "C" fn odr_record_line(bytes: &[u8], text: &mut [u8]) -> TextOut
+    ensures { λ r. ⌜ told (r .refusal) (r .length) ≡ lineAnswer (now (bytes .entry)) (now (text .entry)) ⌝ }
     ensures { λ _. ⌜ now (text .exit) ≡ lineAfter (now (bytes .entry)) (now (text .entry)) ⌝ }
-    ensures { λ _. ⌜ now (count .exit) ≡ valueOr (now (count .entry)) (lineAnswer (now (bytes .entry)) (now (text .entry))) ⌝ }
 {
     match listing::record_line(bytes, text) {
-        ListAnswer::Length(bytes) => {
-            *count = bytes;
-            0
-        }
-        ListAnswer::Refused(n) => n,
+        ListAnswer::Length(length) => TextOut { refusal: 0, length },
+        ListAnswer::Refused(refusal) => TextOut { refusal, length: 0 },
     }
 }
 
 #[no_mangle]
-pub extern "C" fn odr_list(input: &[u8], text: &mut [u8], count: &mut usize) -> u8
-    ensures { λ r. ⌜ r ≡ listAnswer (now (input .entry)) (now (text .entry)) .number ⌝ }
+pub extern "C" fn odr_list(input: &[u8], text: &mut [u8]) -> TextOut
+    ensures { λ r. ⌜ told (r .refusal) (r .length) ≡ listAnswer (now (input .entry)) (now (text .entry)) ⌝ }
     ensures { λ _. ⌜ now (text .exit) ≡ listAfter (now (input .entry)) (now (text .entry)) ⌝ }
-    ensures { λ _. ⌜ now (count .exit) ≡ valueOr (now (count .entry)) (listAnswer (now (input .entry)) (now (text .entry))) ⌝ }
 {
     match listing::list_reel(input, text) {
-        ListAnswer::Length(bytes) => {
-            *count = bytes;
-            0
-        }
-        ListAnswer::Refused(n) => n,
-    }
-}
-
-#[no_mangle]
-pub extern "C" fn odr_header_line(text: &mut [u8], place: usize, next: &mut usize) -> u8
-    ensures { λ r. ⌜ r ≡ putText (now (text .entry)) place headerLine .refusal ⌝ }
-    ensures { λ _. ⌜ now (text .exit) ≡ textAfter (now (text .entry)) place headerLine ⌝ }
-    ensures { λ _. ⌜ now (next .exit) ≡ nextOr (now (next .entry)) (putText (now (text .entry)) place headerLine) ⌝ }
-{
-    match text::put_header_line(text, place) {
-        Put::Next(at) => {
-            *next = at;
-            0
-        }
-        Put::Full => 21,
-    }
-}
-
-#[no_mangle]
-pub extern "C" fn odr_columns_line(
-    text: &mut [u8],
-    place: usize,
-    number: u64,
-    first_us: u64,
-    origin: u64,
-    frequency_uhz: u64,
-    rate_units: i64,
-    next: &mut usize,
-) -> u8
-    ensures { λ r. ⌜ r ≡ putText (now (text .entry)) place (recordLine number «first_us» origin «frequency_uhz» «rate_units») .refusal ⌝ }
-    ensures { λ _. ⌜ now (text .exit) ≡ textAfter (now (text .entry)) place (recordLine number «first_us» origin «frequency_uhz» «rate_units») ⌝ }
-    ensures { λ _. ⌜ now (next .exit) ≡ nextOr (now (next .entry)) (putText (now (text .entry)) place (recordLine number «first_us» origin «frequency_uhz» «rate_units»)) ⌝ }
-{
-    match text::put_record_line(
-        text,
-        place,
-        number,
-        first_us,
-        origin,
-        frequency_uhz,
-        rate_units,
-    ) {
-        Put::Next(at) => {
-            *next = at;
-            0
-        }
-        Put::Full => 21,
-    }
-}
-
-#[no_mangle]
-pub extern "C" fn odr_refused_line(
-    text: &mut [u8],
-    place: usize,
-    number: u64,
-    next: &mut usize,
-) -> u8
-    ensures { λ r. ⌜ r ≡ putText (now (text .entry)) place (refusedLine number) .refusal ⌝ }
-    ensures { λ _. ⌜ now (text .exit) ≡ textAfter (now (text .entry)) place (refusedLine number) ⌝ }
-    ensures { λ _. ⌜ now (next .exit) ≡ nextOr (now (next .entry)) (putText (now (text .entry)) place (refusedLine number)) ⌝ }
-{
-    match text::put_refused_line(text, place, number) {
-        Put::Next(at) => {
-            *next = at;
-            0
-        }
-        Put::Full => 21,
+        ListAnswer::Length(length) => TextOut { refusal: 0, length },
+        ListAnswer::Refused(refusal) => TextOut { refusal, length: 0 },
     }
 }

@@ -13,13 +13,6 @@ pub fn peek(reel: &[u8], place: usize) -> Step
     Reader { reel, place }.peek()
 }
 
-// What stands at the start, by a new reader.
-pub fn first(reel: &[u8]) -> Step
-    ensures { λ r. ⌜ shownStep r ≡ stepAt (now (reel .entry)) 0 ⌝ }
-{
-    Reader::new(reel).peek()
-}
-
 // The bytes of the record at the place, a part of the reel; empty where there is none.
 pub fn record<'a>(reel: &'a [u8], place: usize) -> &'a [u8]
     ensures { λ r. ⌜ now r ≡ recordAt (now (reel .entry)) place ⌝ }

@@ -1,14 +1,14 @@
 -- Laws of refusals and answers. Assumes nothing.
 use Prim.Native.Nat.{ℕ, zero, suc, _≤_}
-use mathlib.Core.Path.{_≡_, refl, ap, sym}
-use mathlib.Core.Bool.{Bool, true, false, cond, _&&_}
+use mathlib.Core.Path.{_≡_, refl, ap, sym, _∙_}
+use mathlib.Core.Bool.{Bool, true, false, cond, _&&_, true≢false}
 use mathlib.Core.List.{List, [], _∷_}
 use native.Mathlib.Omega.{arith}
 use lib.Dec.{T, eqb, leb, leb→le}
 use lib.ListN.{getD}
 use Rattle.lists.proofs.Truth.{left, right}
 use borrow.Author.Tests.{eq-eqb, ne-eqb, eqb-true, eqb-false}
-use Rattle.record.specs.Answer.{accepted, refused, unless}
+use Rattle.record.specs.Answer.{Answer, accepted, refused, unless}
 use Rattle.record.specs.Refusal.{Check, _when_, first, _then_}
 
 -- the second refusal counts where the first is none
@@ -39,6 +39,22 @@ module _ {A : Type 0} (n : ℕ) (empty v : A) where
 
   pub cond-some : (n ≡ 0 → ⊥) → cond (eqb n 0) v empty ≡ empty
   cond-some e = ap (λ (t : Bool). cond t v empty) (ne-eqb n 0 e)
+
+  -- what gives a value gives that one, and nothing is refused
+  pub given-value : (x : A) → accepted x ≡ unless n empty v → (n ≡ 0) × (x ≡ v)
+  given-value x e = by-test (eqb n 0) refl e
+    where
+      by-test : (t : Bool) → eqb n 0 ≡ t → accepted x ≡ cond t (accepted v) (refused empty n) → (n ≡ 0) × (x ≡ v)
+      by-test true a z = (eqb-true n 0 a, ap (λ (y : Answer A). y .value) z)
+      by-test false a z = absurd (true≢false (ap (λ (y : Answer A). y .given) z))
+
+  -- what gives none bears a number that is not 0
+  pub refused-some : (x : A) (m : ℕ) → refused x m ≡ unless n empty v → eqb m 0 ≡ false
+  refused-some x m e = by-test (eqb n 0) refl e
+    where
+      by-test : (t : Bool) → eqb n 0 ≡ t → refused x m ≡ cond t (accepted v) (refused empty n) → eqb m 0 ≡ false
+      by-test true a z = absurd (true≢false (ap (λ (y : Answer A). y .given) (sym z)))
+      by-test false a z = ap (λ (y : Answer A). eqb (y .number) 0) z ∙ a
 
 -- ## no refusal
 

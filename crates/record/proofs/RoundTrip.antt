@@ -1,8 +1,8 @@
 -- What is written is read back the same, and what was read and is written back changes no byte of an accepted record
--- (demand 2). The four claims are at the end. They are about the definitions that the promises of `write_header` and
+-- (demand 2). The claims are at the end. They are about the definitions that the promises of `write_header` and
 -- `read_header` cite. Assumes nothing.
 use Prim.Native.Nat.{ℕ, _*_, _≤_, _<_}
-use mathlib.Core.Path.{_≡_, ap, sym, _∙_}
+use mathlib.Core.Path.{_≡_, ap, sym, _∙_, subst}
 use mathlib.Core.Bool.{Bool, true, false, not, cond}
 use mathlib.Core.List.{List, [], _∷_}
 use native.Mathlib.Omega.{arith}
@@ -20,8 +20,10 @@ use Rattle.header.specs.Header.{values, named, headerOf}
 use Rattle.header.proofs.Sound.{fields-sound, values-header}
 use Rattle.record.specs.Answer.{accepted}
 use Rattle.record.specs.Refusal.{_when_, first}
+use Rattle.record.specs.declared.HeaderAnswer.the-variants as HeaderAnswer
+use Rattle.record.specs.Shown.{shownHeader}
 use Rattle.record.specs.Record.{checks, recordRefusal, headerAnswer, writeRefusal, afterWriting}
-use Rattle.record.proofs.Refusals.{then-none, then-zero, cond-none, unless-none, none-applies}
+use Rattle.record.proofs.Refusals.{then-none, then-zero, cond-none, unless-none, given-value, none-applies}
 use Rattle.record.proofs.Accepted.{Accepted, accepted-facts, record-facts}
 
 -- ## a header that is not refused
@@ -94,6 +96,14 @@ read-is-written b bytes e =
           ∙ ap (λ (z : List ℕ). writeAll fields z b) (values-header b)
           ∙ write-read 640 fields b fields-sound bytes g,
     )
+
+-- the same of the very value that `read_header` answered: what it gave, `write_header` writes back without changing a byte
+pub answer-is-written : (b : List ℕ) (h : Header) → ((k : ℕ) → getD b k 0 < 256) → shownHeader (HeaderAnswer.Accepted h) ≡ headerAnswer b
+    → (writeRefusal (length b) h ≡ 0) × (afterWriting b h ≡ b)
+unfolding headerAnswer headerOf
+answer-is-written b h bytes e =
+    let both = given-value (recordRefusal b) [] (readAll fields b) (values h) e in
+    subst (λ (g : Header). (writeRefusal (length b) g ≡ 0) × (afterWriting b g ≡ b)) (ap named (sym (both .1))) (read-is-written b bytes (both .0))
 
 -- bits that 01 does not name keep what they held
 pub unnamed-kept : (h : Header) (b : List ℕ) (i : ℕ) → unnamed i fields → bitAt (afterWriting b h) i ≡ bitAt b i

@@ -4,3 +4,4 @@ pub mod FirstBytes
 pub mod NewStretch
 mod Trips
 pub mod RoundTrip
+pub mod Bytes

@@ -15,6 +15,7 @@ use Rattle.lists.specs.Fill.{over}
 use Rattle.lists.proofs.Fill.{length-over}
 use Rattle.channels.specs.Sample.{sampleOf, channelRoom, interleaved, setRoom, multiplexed}
 use Rattle.record.proofs.Refusals.{cond-none, cond-some}
+use Rattle.totals.specs.Total.{totalsOf, countOf}
 use Rattle.record.specs.Stretch.{sampleCount, stretchOf, withStretch}
 use Rattle.samples.specs.InOut.{bufferAfter, recordAfter}
 
@@ -52,7 +53,7 @@ buffer-length refusal b channel buffer h =
     (none-or-some refusal)
 
 -- the part that the code lends
-abbrev part : List ℕ → ℕ → List ℕ
+abbrev pub part : List ℕ → ℕ → List ℕ
 part b n = take (80 + 4 * n - 80) (drop 80 b)
 
 pub part-is : (b : List ℕ) (n : ℕ) → n ≡ sampleCount b → part b n ≡ stretchOf b
@@ -68,6 +69,13 @@ module _ (b : List ℕ) (n : ℕ) (inside : 80 + 4 * n ≤ length b) where
 
   sets : length (part b n) / 4 ≡ n
   sets = omega (arith, part-length)
+
+  -- the totals of the part, over as many samples as it has
+  pub part-totals : n ≤ 1000 → totalsOf (part b n) (countOf (part b n)) ≡ totalsOf (take (4 * n) (drop 80 b)) n
+  part-totals few =
+      let count : countOf (part b n) ≡ n = omega (arith, part-length) in
+      let e : 80 + 4 * n - 80 ≡ 4 * n = omega arith in
+      (λ i. totalsOf (part b n) (count i)) ∙ (λ i. totalsOf (take (e i) (drop 80 b)) n)
 
   -- out to a buffer, of a channel from 1 to 4
   count-out : (channel : ℕ) (buffer : List ℤ) → (ltb channel 1 || ltb 4 channel) ≡ false → n ≤ length buffer

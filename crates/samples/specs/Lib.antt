@@ -1,1 +1,2 @@
 pub mod InOut
+pub mod Totals

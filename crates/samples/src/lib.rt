@@ -4,10 +4,20 @@ ghost use mathlib.Core.Path.{_≡_};
 ghost use mathlib.Core.List.{[], _∷_};
 ghost use Prim.Native.Nat.{_≤_};
 ghost use lib.ListN.{length};
+ghost use Rattle.record.specs.Answer.{refused};
 ghost use Rattle.record.specs.Refusal.{_when_, first};
 ghost use Rattle.record.specs.Stretch.{lineOf, sampleCount};
 ghost use Rattle.samples.specs.InOut.{fewer, samplesRefusal, bufferAfter, recordAfter};
+ghost use Rattle.samples.specs.Totals.{noTotals, totalsAnswer, shownTotals};
 use rates::Rate;
+use totals::Total;
+
+// The totals of channels 1 to 4 over all samples of a record, beside the refusal; with one, they are 0.
+#[repr(C)]
+pub struct TotalsAnswer {
+    pub refusal: u8,
+    pub channels: [Total; 4],
+}
 
 // The line of the table of rates that a record's header names; a line of zeros where it is no rate.
 pub fn line_of(bytes: &[u8]) -> Rate
@@ -85,4 +95,37 @@ pub fn write_samples(bytes: &mut [u8], one: &[i8], two: &[i8], three: &[i8], fou
         return 0;
     }
     n
+}
+
+fn no_totals(refusal: u8) -> TotalsAnswer
+    requires { ⌜ 1 ≤ refusal ⌝ }
+    ensures { λ r. ⌜ shownTotals r ≡ refused noTotals refusal ⌝ }
+{
+    let none = Total {
+        sum: 0,
+        squares: 0,
+        least: 0,
+        greatest: 0,
+    };
+    TotalsAnswer {
+        refusal,
+        channels: [none; 4],
+    }
+}
+
+// The totals of a record's samples.
+pub fn record_totals(bytes: &[u8]) -> TotalsAnswer
+    ensures { λ r. ⌜ shownTotals r ≡ totalsAnswer (now (bytes .entry)) ⌝ }
+{
+    let n = record::accept(bytes);
+    if n != 0 {
+        return no_totals(n);
+    }
+    let count = sample_count(bytes);
+    let end = record::HEADER_BYTES + 4 * count;
+    let stretch = &bytes[record::HEADER_BYTES..end];
+    TotalsAnswer {
+        refusal: 0,
+        channels: totals::stretch_totals(stretch),
+    }
 }

@@ -12,6 +12,7 @@ ghost use Rattle.totals.specs.Running.{nextOf, Room, runningsOf, totalAt
 const COUNT_LIMIT: usize = 65_536;
 
 // A channel's total.
+#[repr(C)]
 pub struct Total {
     pub sum: i64,
     pub squares: u64,

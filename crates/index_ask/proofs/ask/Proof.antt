@@ -27,9 +27,12 @@ returns : tie.Need-returns
 returns c =
     let j = c .before .before .before .before in
     let a = j .before .before .before .args in
-    c .second-from .ensures
-    ∙ (λ t. accepted (secondShown (a .o) (c .before .block .ensures t)))
-    ∙ asked (a .o) (a .second) (a .rows .now) (a .seconds .now) (sym (j .judge .ensures) ∙ c .before .before .before .if1 .taken)
+    (
+      c .second-from .ensures .0
+          ∙ (λ t. accepted (secondShown (a .o) (c .before .block .ensures t)))
+          ∙ asked (a .o) (a .second) (a .rows .now) (a .seconds .now) (sym (j .judge .ensures) ∙ c .before .before .before .if1 .taken),
+      c .second-from .ensures .1,
+    )
 
 no-second-requires : tie.Need-no-second-requires
 no-second-requires c κs = search needs
@@ -38,7 +41,10 @@ returns-2 : tie.Need-returns-2
 returns-2 c =
     let j = c .before .before in
     let a = j .before .before .before .args in
-    c .no-second .ensures ∙ not-asked (a .o) (a .second) (a .rows .now) (a .seconds .now) (j .judge .result) (j .judge .ensures) (c .before .if1 .left)
+    (
+      c .no-second .ensures .0 ∙ not-asked (a .o) (a .second) (a .rows .now) (a .seconds .now) (j .judge .result) (j .judge .ensures) (c .before .if1 .left),
+      c .no-second .ensures .1,
+    )
 
 pub ask-spec : {M : Type 1} → statement M
 ask-spec =

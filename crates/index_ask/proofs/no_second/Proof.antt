@@ -3,6 +3,7 @@ use Prim.Native.Nat.{ℕ, _≤_}
 use mathlib.Core.Path.{_≡_, ap}
 use mathlib.Core.Bool.{Bool}
 use native.Mathlib.Omega.{arith}
+use borrow.Author.Needs.{needs}
 use borrow.Author.Tests.{ne-eqb}
 use Rattle.index_model.specs.Second.{noSecond}
 use Rattle.index_ask.proofs.no_second.Statement.{statement}
@@ -15,7 +16,10 @@ is-some n above e = let z : ⊥ = omega (arith, above, e) in z
 returns : tie.Need-returns
 returns c =
     let a = c .args in
-    ap (λ (t : Bool). record { number = a .refusal; value = noSecond; given = t }) (ne-eqb (a .refusal) 0 (is-some (a .refusal) (c .pre)))
+    (
+      ap (λ (t : Bool). record { number = a .refusal; value = noSecond; given = t }) (ne-eqb (a .refusal) 0 (is-some (a .refusal) (c .pre))),
+      search needs,
+    )
 
 pub no-second-spec : {M : Type 1} → statement M
 no-second-spec = tie.close (tie.spec returns)

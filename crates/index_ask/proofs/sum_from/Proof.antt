@@ -1,5 +1,5 @@
 -- `index_ask::sum_from` meets its contract. Assumes nothing.
-use Rattle.index_ask.proofs.Decoding.{sum-fits, sum-read}
+use Rattle.index_ask.proofs.Decoding.{sum-fits, sum-read, sum-exact}
 use borrow.Author.Needs.{needs}
 use Rattle.index_ask.proofs.sum_from.Statement.{statement}
 use Rattle.index_ask.proofs.sum_from.Tie as tie
@@ -17,7 +17,8 @@ sub-result : tie.Need-sub-result
 sub-result c = sum-fits (c .args .x) (c .args .count) (search needs) (search needs)
 
 returns : tie.Need-returns
-returns c = sum-read (c .args .x) (c .args .count) (search needs) (search needs)
+returns c =
+    (sum-read (c .args .x) (c .args .count) (search needs) (search needs), sum-exact (c .args .x) (c .args .count) (search needs) (search needs))
 
 pub sum-from-spec : {M : Type 1} → statement M
 sum-from-spec = tie.close (tie.spec cast-result mul-result cast-result-2 sub-result returns)

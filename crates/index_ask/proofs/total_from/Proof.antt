@@ -1,7 +1,10 @@
 -- `index_ask::total_from` meets its contract. Assumes nothing.
-use mathlib.Core.Path.{_∙_}
+use Prim.Native.Nat.{_≤_}
+use mathlib.Core.Path.{_∙_, sym, subst}
+use lib.IntN.{ℤ, natAbs}
 use mir.Syntax.{w8, w64}
 use mir.ValLaws.{toZ-ofZ}
+use Rattle.index_ask.specs.Exact.{exactLimit}
 use Rattle.index_ask.proofs.Decoding.{none-read, some-read}
 use borrow.Author.Needs.{needs}
 use Rattle.index_ask.proofs.total_from.Statement.{statement}
@@ -11,7 +14,8 @@ array-read-if1 : tie.Need-array-read-if1
 array-read-if1 c = search needs
 
 returns : tie.Need-returns
-returns c = none-read (c .before .args .count) (c .before .args .t1) (c .before .args .channel) (c .if1 .taken)
+returns c =
+    (none-read (c .before .args .count) (c .before .args .t1) (c .before .args .channel) (c .if1 .taken), record { sums = search needs; squared = search needs })
 
 mul-at : tie.Need-mul-at
 mul-at c = search needs
@@ -65,11 +69,14 @@ returns-2 : tie.Need-returns-2
 returns-2 c =
     let sum = c .before .before .before in
     let a = sum .before .before .args in
-    let sums = toZ-ofZ w64 (sum .sum-from .result) (record { sfits = sum .sum-from .ok }) ∙ sum .sum-from .ensures in
+    let sums = toZ-ofZ w64 (sum .sum-from .result) (record { sfits = sum .sum-from .ok }) ∙ sum .sum-from .ensures .0 in
     let least = toZ-ofZ w8 (c .before .least-from .result) (record { sfits = c .before .least-from .ok }) ∙ c .before .least-from .ensures in
     let greatest = toZ-ofZ w8 (c .greatest-from .result) (record { sfits = c .greatest-from .ok }) ∙ c .greatest-from .ensures in
-    (λ t. record { sum = sums t; squares = c .before .before .wide .ensures .0 t; least = least t; greatest = greatest t })
-    ∙ some-read (a .count) (a .t1) (a .channel) (sum .before .if1 .left)
+    let back = toZ-ofZ w64 (sum .sum-from .result) (record { sfits = sum .sum-from .ok }) in (
+      (λ t. record { sum = sums t; squares = c .before .before .wide .ensures .0 t; least = least t; greatest = greatest t })
+          ∙ some-read (a .count) (a .t1) (a .channel) (sum .before .if1 .left),
+      record { sums = subst (λ (z : ℤ). natAbs z ≤ exactLimit) (sym back) (sum .sum-from .ensures .1); squared = search needs },
+    )
 
 pub total-from-spec : {M : Type 1} → statement M
 total-from-spec =

@@ -1,7 +1,7 @@
 -- The part from byte 80 is the stretch, and has so many samples a channel. Assumes nothing.
 use mathlib.Core.Path.{_∙_}
 use denote.Ref.{now}
-use Rattle.index_row.proofs.Samples.{part-totals}
+use Rattle.samples.proofs.Part.{part-totals}
 use borrow.Author.Needs.{needs}
 use Rattle.index_row.proofs.record_totals.Statement.{statement}
 use Rattle.index_row.proofs.record_totals.Tie as tie
@@ -25,7 +25,7 @@ stretch-totals-requires : tie.Need-stretch-totals-requires
 stretch-totals-requires c κs = search needs
 
 returns : tie.Need-returns
-returns c = let a = c .before .before .before in c .stretch-totals .ensures ∙ part-totals (now (a .args .bytes)) (a .args .count) (a .pre .0) (a .pre .1)
+returns c = let a = c .before .before .before in c .stretch-totals .ensures ∙ part-totals (now (a .args .bytes)) (a .args .count) (a .pre .1) (a .pre .0)
 
 pub record-totals-spec : {M : Type 1} → statement M
 record-totals-spec =

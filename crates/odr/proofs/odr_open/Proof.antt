@@ -1,9 +1,8 @@
--- `odr::odr_open` meets its contract. Assumes nothing.
-use mathlib.Core.Path.{refl, ap, _∙_}
+-- The opening in its case, or the refusal; the cells are as opening left them. Assumes nothing.
+use denote.Ref.{now}
+use Rattle.index_model.specs.Opening.{openingOf, noOpening, openRefusal, openAnswer}
 use Rattle.index_open.specs.Shown.{shownOpen}
-use Rattle.lent.specs.Lent.{placed}
-use Rattle.lent.specs.Values.{openingValues}
-use Rattle.odr.proofs.Answers.{in-case, same-number, put-given, put-none}
+use Rattle.odr.proofs.Told.{in-case, told-refused}
 use borrow.Author.Needs.{needs}
 use Rattle.odr.proofs.odr_open.Statement.{statement}
 use Rattle.odr.proofs.odr_open.Tie as tie
@@ -11,20 +10,11 @@ use Rattle.odr.proofs.odr_open.Tie as tie
 open-requires : tie.Need-open-requires
 open-requires c κs = search needs
 
-enum-known-o : tie.Need-enum-known-o
-enum-known-o c = search needs
+enum-known-opening : tie.Need-enum-known-opening
+enum-known-opening c = search needs
 
-listed-requires : tie.Need-listed-requires
-listed-requires c κs = search needs
-
-slice-aggregate-put-numbers : tie.Need-slice-aggregate-put-numbers
-slice-aggregate-put-numbers c = search needs
-
-put-numbers-requires : tie.Need-put-numbers-requires
-put-numbers-requires c κs = search needs
-
-enum-known-n : tie.Need-enum-known-n
-enum-known-n c = search needs
+enum-known-refusal : tie.Need-enum-known-refusal
+enum-known-refusal c = search needs
 
 same-length : tie.Need-same-length
 same-length c = search needs
@@ -32,50 +22,40 @@ same-length c = search needs
 same-length-2 : tie.Need-same-length-2
 same-length-2 c = search needs
 
-same-length-3 : tie.Need-same-length-3
-same-length-3 c = search needs
-
 returns : tie.Need-returns
 returns c =
-    let put = c .before .before in
-    let list = put .before .before .before in
-    let call = list .before .before .before .before .before .before .before .before in
-    let out = call .before .before .before .before .before .before .before .args .opening .now in
-    let p = in-case shownOpen (call .«open» .ensures .0) (list .before .before .o .given .1) in (
-      same-number p,
-      (
-        call .«open» .ensures .1 .0,
-        (call .«open» .ensures .1 .1, put .put-numbers .ensures ∙ ap (placed out) (list .listed .ensures) ∙ put-given p openingValues out refl),
-      ),
-    )
+    let call = c .before .before .before .before .before .before .before in
+    (in-case shownOpen (call .«open» .ensures .0) (c .before .opening .given .1), call .«open» .ensures .1)
+
+same-length-3 : tie.Need-same-length-3
+same-length-3 c = search needs
 
 same-length-4 : tie.Need-same-length-4
 same-length-4 c = search needs
 
-same-length-5 : tie.Need-same-length-5
-same-length-5 c = search needs
-
 returns-2 : tie.Need-returns-2
+unfolding openAnswer
 returns-2 c =
     let call = c .before .before .before .before .before .before .before in
-    let out = call .before .before .before .before .before .before .before .args .opening .now in
-    let p = in-case shownOpen (call .«open» .ensures .0) (c .before .n .given .1) in
-    (same-number p, (call .«open» .ensures .1 .0, (call .«open» .ensures .1 .1, put-none p openingValues out refl)))
+    let a = call .before .before .before .before .before .before .args in
+    let F = a .first-second in
+    let C = a .second-count in
+    let R = a .highest-number in (
+      told-refused (openRefusal (now (a .pattern)) F C R (now (a .rows)) (now (a .seconds))) noOpening (openingOf (now (a .pattern)) F C R)
+          (in-case shownOpen (call .«open» .ensures .0) (c .before .refusal .given .1)),
+      call .«open» .ensures .1,
+    )
 
 pub odr-open-spec : {M : Type 1} → statement M
 odr-open-spec =
     tie.close
     (tie.spec
     open-requires
-    enum-known-o
-    listed-requires
-    slice-aggregate-put-numbers
-    put-numbers-requires
-    enum-known-n
+    enum-known-opening
+    enum-known-refusal
     same-length
     same-length-2
-    same-length-3
     returns
+    same-length-3
     same-length-4
-    same-length-5
     returns-2)

@@ -1,7 +1,13 @@
--- `odr::odr_phases` meets its contract. Assumes nothing.
-use mathlib.Core.Path.{refl, _∙_}
+-- The two phases in their case, or the refusal. Assumes nothing.
+use mathlib.Core.Path.{_≡_, ap}
+use mathlib.Core.List.{List}
+use lib.Ieee.{Float, ofBits}
+use lib.ListN.{getD}
+use Rattle.record.specs.Answer.{Answer}
 use Rattle.times.specs.Shown.{shownPhases}
-use Rattle.odr.proofs.Answers.{in-case, same-number, put-value, put-empty}
+use Rattle.odr.specs.declared.PhasesOut.{PhasesOut}
+use Rattle.odr.specs.Out.{zeroFloat, PhasesTold}
+use Rattle.odr.proofs.Told.{in-case}
 use borrow.Author.Needs.{needs}
 use Rattle.odr.proofs.odr_phases.Statement.{statement}
 use Rattle.odr.proofs.odr_phases.Tie as tie
@@ -12,42 +18,28 @@ phases-requires c κs = search needs
 enum-known-first : tie.Need-enum-known-first
 enum-known-first c = search needs
 
-slice-aggregate-put-floats : tie.Need-slice-aggregate-put-floats
-slice-aggregate-put-floats c = search needs
-
-put-floats-requires : tie.Need-put-floats-requires
-put-floats-requires c κs = search needs
-
-enum-known-n : tie.Need-enum-known-n
-enum-known-n c = search needs
-
-same-length : tie.Need-same-length
-same-length c = search needs
+enum-known-refusal : tie.Need-enum-known-refusal
+enum-known-refusal c = search needs
 
 returns : tie.Need-returns
 returns c =
-    let put = c .before .before in
-    let call = put .before .before .before .before .before .before in
-    let out = call .before .before .before .args .cycles .now in
-    let p = in-case shownPhases (call .phases .ensures .0) (put .before .before .before .before .first .given .1) in
-    (same-number p, put .put-floats .ensures ∙ put-value out p)
+    let e = in-case shownPhases (c .before .before .before .phases .ensures .0) (c .before .first .given .1) in
+    record {
+      number = ap (λ (a : Answer (List Float)). a .number) e;
+      first = ap (λ (a : Answer (List Float)). getD (a .value) 0 zeroFloat) e;
+      second = ap (λ (a : Answer (List Float)). getD (a .value) 1 zeroFloat) e;
+    }
 
 returns-2 : tie.Need-returns-2
+unfolding ofBits
 returns-2 c =
-    let call = c .before .before .before in
-    let out = call .before .before .before .args .cycles .now in
-    let p = in-case shownPhases (call .phases .ensures .0) (c .before .n .given .1) in
-    (same-number p, put-empty out p refl)
+    let e = in-case shownPhases (c .before .before .before .phases .ensures .0) (c .before .refusal .given .1) in
+    record {
+      number = ap (λ (a : Answer (List Float)). a .number) e;
+      first = ap (λ (a : Answer (List Float)). getD (a .value) 0 zeroFloat) e;
+      second = ap (λ (a : Answer (List Float)). getD (a .value) 1 zeroFloat) e;
+    }
 
 pub odr-phases-spec : {M : Type 1} → statement M
 odr-phases-spec =
-    tie.close
-    (tie.spec
-    phases-requires
-    enum-known-first
-    slice-aggregate-put-floats
-    put-floats-requires
-    enum-known-n
-    same-length
-    returns
-    returns-2)
+    tie.close (tie.spec phases-requires enum-known-first enum-known-refusal returns returns-2)

@@ -1,9 +1,10 @@
--- `odr::odr_segment` meets its contract. Assumes nothing.
+-- The segment's bytes, copied, with their number; none beside a refusal. Assumes nothing.
+use Prim.Native.Nat.{ℕ}
 use mathlib.Core.Path.{ap, _∙_}
-use denote.Ref.{now}
-use lib.ListN.{length}
-use Rattle.lent.specs.Lent.{placed}
-use Rattle.odr.proofs.Answers.{segment-length, no-length}
+use mathlib.Core.List.{List}
+use lib.ListN.{length, getD}
+use Rattle.lists.specs.Fill.{tab}
+use Rattle.odr.specs.Out.{longestSegment}
 use borrow.Author.Needs.{needs}
 use Rattle.odr.proofs.odr_segment.Statement.{statement}
 use Rattle.odr.proofs.odr_segment.Tie as tie
@@ -11,54 +12,21 @@ use Rattle.odr.proofs.odr_segment.Tie as tie
 segment-requires : tie.Need-segment-requires
 segment-requires c κs = search needs
 
-put-bytes-requires : tie.Need-put-bytes-requires
-put-bytes-requires c κs = search needs
+copied-requires : tie.Need-copied-requires
+copied-requires c κs = search needs
 
 segment-refusal-requires : tie.Need-segment-refusal-requires
 segment-refusal-requires c κs = search needs
 
-same-length : tie.Need-same-length
-same-length c = search needs
-
 returns : tie.Need-returns
 returns c =
-    let call = c .before in
-    let put = call .before .before .before in
-    let part = put .before .before in
-    let a = part .before .before .before .before .args in
-    let e = call .segment-refusal .ensures in (
-      e,
-      (
-        put .put-bytes .ensures ∙ ap (placed (a .out .now)) (part .segment .ensures),
-        ap length (part .segment .ensures) ∙ segment-length (now (a .this-record)) (now (a .earlier)) (a .number) (a .count .now) e (c .if1 .taken),
-      ),
-    )
-
-same-length-2 : tie.Need-same-length-2
-same-length-2 c = search needs
-
-returns-2 : tie.Need-returns-2
-returns-2 c =
-    let call = c .before in
-    let put = call .before .before .before in
-    let part = put .before .before in
-    let a = part .before .before .before .before .args in
-    let e = call .segment-refusal .ensures in (
-      e,
-      (
-        put .put-bytes .ensures ∙ ap (placed (a .out .now)) (part .segment .ensures),
-        no-length (now (a .this-record)) (now (a .earlier)) (a .number) (a .count .now) e (c .if1 .left),
-      ),
-    )
+    let copy = c .before in
+    let e = copy .before .segment .ensures in
+    record {
+      number = c .segment-refusal .ensures;
+      size = ap length e;
+      bytes = copy .copied .ensures ∙ ap (λ (l : List ℕ). tab (λ (k : ℕ). getD l k 0) 0 longestSegment) e;
+    }
 
 pub odr-segment-spec : {M : Type 1} → statement M
-odr-segment-spec =
-    tie.close
-    (tie.spec
-    segment-requires
-    put-bytes-requires
-    segment-refusal-requires
-    same-length
-    returns
-    same-length-2
-    returns-2)
+odr-segment-spec = tie.close (tie.spec segment-requires copied-requires segment-refusal-requires returns)

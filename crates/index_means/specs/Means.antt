@@ -1,0 +1,49 @@
+-- The mean and the mean square of each channel of a second. 01, "The book": "each one division of two whole numbers held exactly;
+-- both are 0 for no samples". A question about them is refused as one about the second's totals is: 13, 14, 17.
+use Prim.Native.Nat.{ℕ, suc, _*_}
+use mathlib.Core.Bool.{true, false, cond}
+use mathlib.Core.List.{List, [], _∷_, map}
+use lib.Dec.{eqb}
+use lib.IntN.{ℤ, pos, negsuc}
+use lib.Ieee.{Float, fin, binary64, round}
+use Rattle.rates.specs.Rates.{rateOf, samplesPerRecord}
+use Rattle.record.specs.Answer.{Answer, unless}
+use Rattle.totals.specs.declared.Total.{Total}
+use Rattle.index_model.specs.declared.Opening.{Opening}
+use Rattle.index_model.specs.Second.{SecondTotals}
+use Rattle.index_model.specs.Calls.{askAnswer}
+use Rattle.index_means.specs.declared.Means.{Means}
+
+-- a whole number over a count above 0: the 64-bit float nearest to the exact quotient, rounded once (negsuc a is -1 - a)
+unfoldable pub quotientOf : ℤ → ℕ → Float
+quotientOf (pos a) count = round binary64 false a count
+quotientOf (negsuc a) count = round binary64 true (suc a) count
+
+-- both 0
+abbrev pub noMeans : Means
+noMeans = record { mean = fin false 0 (pos 0); «mean_square» = fin false 0 (pos 0) }
+
+-- the sum over the count, and the sum of squares over the count; both 0 for no samples
+unfoldable pub meansOf : Total → ℕ → Means
+meansOf total count =
+    cond (eqb count 0) noMeans
+    (record { mean = quotientOf (total .sum) count; «mean_square» = quotientOf (pos (total .squares)) count })
+
+-- the means of each of the channels' totals
+abbrev pub eachMeans : List Total → ℕ → List Means
+eachMeans totals count = map (λ (total : Total). meansOf total count) totals
+
+-- beside a refusal
+abbrev pub noMeansEach : List Means
+noMeansEach = noMeans ∷ noMeans ∷ noMeans ∷ noMeans ∷ []
+
+-- of a second: its totals over the samples that its records have of each channel
+abbrev pub secondMeans : Opening → SecondTotals → List Means
+secondMeans o s = eachMeans (s .channels) (s .records * samplesPerRecord (rateOf (o .«sample_rate_hz»)))
+
+-- what a question about them answers, by what a question about the second does
+abbrev pub meansBy : Opening → Answer SecondTotals → Answer (List Means)
+meansBy o a = unless (a .number) noMeansEach (secondMeans o (a .value))
+
+unfoldable pub meansAnswer : Opening → ℕ → List ℕ → List ℕ → Answer (List Means)
+meansAnswer o s rows seconds = meansBy o (askAnswer o s rows seconds)

@@ -1,2 +1,0 @@
-pub mod Quotient
-pub mod Exact

@@ -1,0 +1,15 @@
+-- An answer that comes back as a struct, by its case. Assumes nothing.
+use Prim.Native.Nat.{ℕ}
+use mathlib.Core.Path.{_≡_, ap, sym, _∙_}
+use mathlib.Core.Bool.{Bool}
+use Rattle.record.specs.Answer.{refused, unless}
+use Rattle.record.proofs.Refusals.{refused-some}
+use Rattle.odr.specs.Out.{told}
+
+-- the case r of what a call gave, s
+pub in-case : {S A : Type 0} (shown : S → A) {s r : S} {a : A} → shown s ≡ a → s ≡ r → shown r ≡ a
+in-case shown e is = ap shown (sym is) ∙ e
+
+-- a refusal's number is not 0, so that the struct gives no value
+pub told-refused : {A : Type 0} (n : ℕ) (empty v : A) {x : A} {m : ℕ} → refused x m ≡ unless n empty v → told m x ≡ unless n empty v
+told-refused {A} n empty v {x} {m} p = ap (λ (t : Bool). record { number = m; value = x; given = t }) (refused-some n empty v x m p) ∙ p

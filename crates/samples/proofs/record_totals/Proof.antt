@@ -1,0 +1,90 @@
+-- The record is judged first; then the part from byte 80 is its stretch. Assumes nothing.
+use Prim.Native.Nat.{ℕ, _+_, _*_, _≤_}
+use mathlib.Core.Path.{ap, sym, _∙_}
+use native.Mathlib.Omega.{arith}
+use denote.Ref.{now}
+use lib.ListN.{length, take, drop}
+use Rattle.record.specs.Answer.{accepted, refused}
+use Rattle.record.specs.Record.{headerBytes, recordRefusal}
+use Rattle.record.specs.Stretch.{lineOf, sampleCount, stretchOf}
+use Rattle.record.proofs.Refusals.{unless-none, unless-some}
+use Rattle.record.proofs.Accepted.{stretch-inside}
+use Rattle.totals.specs.Total.{totalsOf}
+use Rattle.samples.specs.Totals.{noTotals, totalsAnswer}
+use Rattle.samples.proofs.Part.{part-totals}
+use borrow.Author.Needs.{needs}
+use Rattle.samples.proofs.record_totals.Statement.{statement}
+use Rattle.samples.proofs.record_totals.Tie as tie
+
+-- the stretch lies within an accepted record
+inside : (c : tie.After-sample-count) → 80 + 4 * c .sample-count .result ≤ length (now (c .before .before .before .before .args .bytes))
+unfolding lineOf
+inside c =
+    let accept = c .before .before in
+    omega (arith, stretch-inside (now (accept .before .before .args .bytes)) (sym (accept .accept .ensures) ∙ c .before .if1 .left), c .sample-count .ensures .0)
+
+accept-requires : tie.Need-accept-requires
+accept-requires c κs = search needs
+
+no-totals-requires : tie.Need-no-totals-requires
+no-totals-requires c κs = search needs
+
+returns : tie.Need-returns
+unfolding totalsAnswer
+returns c =
+    let accept = c .before .before in
+    let b = now (accept .before .before .args .bytes) in
+    c .no-totals .ensures
+    ∙ ap (λ (n : ℕ). refused noTotals n) (accept .accept .ensures)
+    ∙ unless-some (recordRefusal b) noTotals (totalsOf (stretchOf b) (sampleCount b)) (λ z. c .before .if1 .taken (accept .accept .ensures ∙ z))
+
+sample-count-requires : tie.Need-sample-count-requires
+sample-count-requires c κs = search needs
+
+mul-end : tie.Need-mul-end
+mul-end c = search needs
+
+add-end : tie.Need-add-end
+add-end c = search needs
+
+sub-stretch : tie.Need-sub-stretch
+sub-stretch c = search needs
+
+part-stretch-start : tie.Need-part-stretch-start
+part-stretch-start c = search needs
+
+part-stretch-end : tie.Need-part-stretch-end
+part-stretch-end c = inside c
+
+stretch-totals-requires : tie.Need-stretch-totals-requires
+stretch-totals-requires c κs = search needs
+
+returns-2 : tie.Need-returns-2
+unfolding totalsAnswer stretchOf
+returns-2 c =
+    let count = c .before .before in
+    let accept = count .before .before in
+    let b = now (accept .before .before .args .bytes) in
+    let e = count .sample-count .ensures in
+    (λ t. accepted (
+    (c .stretch-totals .ensures
+    ∙ part-totals b (count .sample-count .result) (inside count) (e .1)
+    ∙ (λ i. totalsOf (take (4 * e .0 i) (drop headerBytes b)) (e .0 i))) t
+    ))
+    ∙ unless-none (recordRefusal b) noTotals (totalsOf (stretchOf b) (sampleCount b)) (sym (accept .accept .ensures) ∙ count .before .if1 .left)
+
+pub record-totals-spec : {M : Type 1} → statement M
+record-totals-spec =
+    tie.close
+    (tie.spec
+    accept-requires
+    no-totals-requires
+    returns
+    sample-count-requires
+    mul-end
+    add-end
+    sub-stretch
+    part-stretch-start
+    part-stretch-end
+    stretch-totals-requires
+    returns-2)

@@ -1,0 +1,22 @@
+-- The totals of a record's samples, for each channel. 01: "for each channel sum, sum of squares, least and greatest over all samples".
+use mathlib.Core.List.{List, [], _∷_}
+use Prim.Native.Nat.{ℕ}
+use lib.Dec.{eqb}
+use Rattle.record.specs.Answer.{Answer, unless}
+use Rattle.record.specs.Record.{recordRefusal}
+use Rattle.record.specs.Stretch.{sampleCount, stretchOf}
+use Rattle.totals.specs.declared.Total.{Total}
+use Rattle.totals.specs.Total.{noTotal, totalsOf}
+use Rattle.samples.specs.declared.TotalsAnswer.{TotalsAnswer}
+
+-- beside a refusal: 0 throughout
+abbrev pub noTotals : List Total
+noTotals = noTotal ∷ noTotal ∷ noTotal ∷ noTotal ∷ []
+
+-- the totals of channels 1 to 4 over all samples of the record b, or its refusal
+unfoldable pub totalsAnswer : List ℕ → Answer (List Total)
+totalsAnswer b = unless (recordRefusal b) noTotals (totalsOf (stretchOf b) (sampleCount b))
+
+-- the number is the field `refusal`, the values are the totals
+abbrev pub shownTotals : TotalsAnswer → Answer (List Total)
+shownTotals r = record { number = r .refusal; value = r .channels; given = eqb (r .refusal) 0 }
