@@ -22,7 +22,7 @@ use Rattle.index_model.proofs.Decoded.{second-sound, joined-length}
 use Rattle.index_model.proofs.Judging.{ask-answered}
 use Rattle.index_model.proofs.Steps.{after-agrees}
 use Rattle.index_model.proofs.Opened.{regular-empty, fine, returned, opened-agrees}
-use Rattle.index_model.proofs.Demand3.{start}
+use Rattle.index_model.proofs.Demand3.{opened}
 use Rattle.index_means.specs.Means.{meansOf, noMeansEach, secondMeans, meansBy, meansAnswer}
 use Rattle.index_means.specs.OfLedger.{ledgerMeans, ledgerMeansAnswer}
 
@@ -48,9 +48,9 @@ module _ (o : Opening) (L : Ledger) (sound : SoundLedger o L) (s : ℕ) where
       by-test false = refl
 
 module _ (pattern : List ℕ) (F C R : ℕ) (rows seconds : List ℕ) (none : openRefusal pattern F C R rows seconds ≡ 0) (calls : List Call) (s : ℕ) where
-  abbrev ByLedger : Opening → Type 0
+  abbrev pub ByLedger : Opening → Type 0
   ByLedger o =
-      let end = after o calls (start pattern F C R rows seconds none calls) in
+      let end = after o calls (opened pattern F C R rows seconds) in
       meansAnswer o s (end .rows) (end .seconds) ≡ ledgerMeansAnswer o (ledgerAfter o calls noRecords) s
 
   pub means-of-history : ByLedger (openAnswer pattern F C R rows seconds .value)
@@ -62,7 +62,7 @@ module _ (pattern : List ℕ) (F C R : ℕ) (rows seconds : List ℕ) (none : op
 
       proved : ByLedger o
       proved =
-          let begin = start pattern F C R rows seconds none calls in
+          let begin = opened pattern F C R rows seconds in
           let fits = fine pattern F C R rows seconds none in
           let end = after-agrees o fits calls noRecords begin (regular-empty o) (opened-agrees pattern F C R rows seconds none) in
           let L = ledgerAfter o calls noRecords in

@@ -28,12 +28,16 @@ pub record Demand3 (o : Opening) (c : Cells) (calls : List Call) : Type 0 where
   -- every accepted put or take-out altered only its record's row and the seconds it left and joined; every other call, nothing
   pub alterations : EachAlters o calls noRecords c
 
-module _ (pattern : List ℕ) (F C R : ℕ) (rows seconds : List ℕ) (none : openRefusal pattern F C R rows seconds ≡ 0) (calls : List Call) where
-  -- the cells that opening left
-  abbrev pub start : Cells
-  start = record { rows = openRows pattern F C R rows seconds; seconds = openSeconds pattern F C R rows seconds }
+-- the cells that opening left
+abbrev pub opened : List ℕ → ℕ → ℕ → ℕ → List ℕ → List ℕ → Cells
+opened pattern F C R rows seconds =
+    record { rows = openRows pattern F C R rows seconds; seconds = openSeconds pattern F C R rows seconds }
 
-  pub demand3 : Demand3 (openAnswer pattern F C R rows seconds .value) start calls
+module _ (pattern : List ℕ) (F C R : ℕ) (rows seconds : List ℕ) (none : openRefusal pattern F C R rows seconds ≡ 0) (calls : List Call) where
+  abbrev start : Cells
+  start = opened pattern F C R rows seconds
+
+  pub demand3 : Demand3 (openAnswer pattern F C R rows seconds .value) (opened pattern F C R rows seconds) calls
   demand3 = subst (λ (o : Opening). Demand3 o start calls) (sym (returned pattern F C R rows seconds none)) proved
     where
       o : Opening
@@ -53,8 +57,10 @@ module _ (pattern : List ℕ) (F C R : ℕ) (rows seconds : List ℕ) (none : op
           }
 
   -- 01: "After every history it says yes."
-  abbrev SaysYes : Opening → Type 0
-  SaysYes o = testAnswer o (after o calls start .rows) (after o calls start .seconds) ≡ accepted true
+  abbrev pub SaysYes : Opening → Type 0
+  SaysYes o =
+      let end = after o calls (opened pattern F C R rows seconds) in
+      testAnswer o (end .rows) (end .seconds) ≡ accepted true
 
   pub test-says-yes : SaysYes (openAnswer pattern F C R rows seconds .value)
   test-says-yes = subst SaysYes (sym (returned pattern F C R rows seconds none)) proved

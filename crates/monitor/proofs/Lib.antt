@@ -2,3 +2,4 @@ pub mod Segments
 pub mod Monitor
 pub mod Answers
 pub mod Places
+pub mod Given

@@ -1,7 +1,7 @@
 -- The search through the segments' table, and what its one computed test gives of each row. Assumes nothing.
 use Prim.Native.Nat.{ℕ, zero, suc, _+_, _≤_, _<_}
 use mathlib.Core.Path.{_≡_, refl, ap, sym, _∙_}
-use mathlib.Core.Bool.{Bool, cond}
+use mathlib.Core.Bool.{Bool, true, false, cond}
 use mathlib.Core.List.{List, [], _∷_, map}
 use native.Mathlib.Nat.{le-of-suc-le-suc, not-suc-le-zero}
 use native.Mathlib.Numerals.{add-one}
@@ -44,6 +44,7 @@ of-test before s t =
       some = omega arith;
       order = leb→le _ _ (each (wordTests before s) 1 t);
       end = leb→le _ _ (each (wordTests before s) 2 t);
+      few = leb→le _ _ (each (wordTests before s) 3 t);
     }
 
 in-rows : (before : ℕ) (ss : List SegmentWords) (row : ℕ) → row < length ss → T (soundAfter before ss) → SoundWords (getD ss row noSegment)
@@ -57,6 +58,20 @@ segments-sound = tt
 
 pub sound-words : (row : ℕ) → row < length segments → SoundWords (segmentAt row)
 sound-words row h = in-rows 1 segments row h segments-sound
+
+-- the row of a number is one of the table's, or the place past them
+row-in-most : (ss : List SegmentWords) (number : ℕ) → rowIn ss number ≤ length ss
+unfolding rowIn
+row-in-most [] number = omega arith
+row-in-most (s ∷ ss) number = by-test (eqb (segmentNumber s) number) (row-in-most ss number)
+  where
+    by-test : (t : Bool) → rowIn ss number ≤ length ss → cond t 0 (1 + rowIn ss number) ≤ suc (length ss)
+    by-test true h = omega arith
+    by-test false h = omega arith
+
+pub row-most : (number : ℕ) → rowOf number ≤ 7
+unfolding rowOf
+row-most number = row-in-most segments number
 
 -- ## the table against the counts of the figure
 

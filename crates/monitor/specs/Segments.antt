@@ -56,15 +56,22 @@ isNoRow row = eqb row (length segments)
 abbrev pub segmentAt : ℕ → SegmentWords
 segmentAt row = getD segments row noSegment
 
--- the words of a row are among the 150
+-- no segment has more words
+abbrev pub mostWords : ℕ
+mostWords = 45
+
+-- the words of a row are among the 150, and few
 pub record SoundWords (s : SegmentWords) : Type 0 where
   pub some : 1 ≤ firstWord s
   pub order : firstWord s ≤ lastWord s
   pub end : lastWord s ≤ 150
+  pub few : wordCount s ≤ mostWords
 
--- the one test of the table: each segment starts after the last word of the row before, has a word, and ends by word 150
+-- the one test of the table: each segment starts after the last word of the row before, has a word but no more than 45, and ends by
+-- word 150
 abbrev pub wordTests : ℕ → SegmentWords → List Bool
-wordTests before s = ltb before (firstWord s) ∷ leb (firstWord s) (lastWord s) ∷ leb (lastWord s) 150 ∷ []
+wordTests before s =
+    ltb before (firstWord s) ∷ leb (firstWord s) (lastWord s) ∷ leb (lastWord s) 150 ∷ leb (wordCount s) mostWords ∷ []
 
 abbrev pub soundAfter : ℕ → List SegmentWords → Bool
 soundAfter before [] = true

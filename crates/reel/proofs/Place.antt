@@ -2,7 +2,7 @@
 use Prim.Native.Nat.{ℕ, _+_, _*_, _-_, _≤_, _<_}
 use mathlib.Core.Path.{_≡_, refl, ap, sym, _∙_}
 use mathlib.Core.Bool.{Bool, true, false, true≢false, cond}
-use mathlib.Core.List.{List, _++_}
+use mathlib.Core.List.{List, [], _++_}
 use native.Mathlib.Omega.{arith}
 use lib.Dec.{eqb, leb}
 use lib.ListN.{length, take, drop, take-append-drop, length-drop, length-append}
@@ -117,11 +117,14 @@ module _ (reel : List ℕ) (place : ℕ) where
   pub moved : isRecord (stepAt reel place) ≡ true → Moved (recordAt reel place) (nextPlace reel place)
   moved e = found-moved (stepAt reel place) e (told reel place)
 
-  -- no record found: the place stays
-  found-stays : (f : Found) → isRecord f ≡ false → placeAfter f place ≡ place
-  found-stays (accepted start end) e = absurd (true≢false e)
-  found-stays finished e = refl
-  found-stays (refused n) e = refl
+  -- no record found: the place stays, and there are no bytes
+  found-none : (f : Found) → isRecord f ≡ false → (placeAfter f place ≡ place) × (bytesFound f reel ≡ [])
+  found-none (accepted start end) e = absurd (true≢false e)
+  found-none finished e = (refl, refl)
+  found-none (refused n) e = (refl, refl)
 
   pub stays : isRecord (stepAt reel place) ≡ false → nextPlace reel place ≡ place
-  stays e = found-stays (stepAt reel place) e
+  stays e = found-none (stepAt reel place) e .0
+
+  pub empty : isRecord (stepAt reel place) ≡ false → recordAt reel place ≡ []
+  empty e = found-none (stepAt reel place) e .1

@@ -4,15 +4,15 @@
 use Prim.Native.Nat.{ℕ, _+_, _/_, _≤_}
 use mathlib.Core.Path.{_≡_, refl}
 use mathlib.Core.Bool.{true, false}
-use mathlib.Core.List.{List, flatten}
+use mathlib.Core.List.{List, [], flatten}
 use native.Mathlib.Omega.{arith}
 use lib.ListN.{length}
 use denote.Ref.{RefT, now}
-use Rattle.record.specs.Record.{headerBytes}
-use Rattle.reel.specs.Reel.{finished, stepAt, nextPlace}
+use Rattle.record.specs.Record.{headerBytes, recordRefusal}
+use Rattle.reel.specs.Reel.{finished, stepAt, recordAt, nextPlace}
 use Rattle.reel.specs.Walk.{isRecord, walk, AllAccepted}
 use Rattle.reel.specs.Reader.{atStart, readerWalk}
-use Rattle.reel.proofs.Place.{moved, stays}
+use Rattle.reel.proofs.Place.{moved, stays, empty}
 use Rattle.reel.proofs.Onward.{along, enough}
 use Rattle.reel.proofs.Records.{hands, joined-size}
 use Rattle.reel.proofs.Reading.{reader-walks}
@@ -43,6 +43,14 @@ module _ (reel : List ℕ) where
   at-most =
       let a = along reel (length reel / headerBytes) 0 in
       omega (arith, a .on, a .inside (omega arith))
+
+  -- `record_at`, `next_place`, and the reader's `record` and `next`, bear no number: `step_at` and `peek` at the same place do. Where
+  -- those give a record, its bytes are accepted, so there are some; at the end and beside a refusal there are none
+  pub record-stands : (place : ℕ) → isRecord (stepAt reel place) ≡ true → recordRefusal (recordAt reel place) ≡ 0
+  record-stands place e = moved reel place e .good
+
+  pub no-record : (place : ℕ) → isRecord (stepAt reel place) ≡ false → recordAt reel place ≡ []
+  no-record place e = empty reel place e
 
   -- a record moves the place on by at least 80 bytes; a refusal, and the end, do not move it
   pub moves-on : (place : ℕ) → isRecord (stepAt reel place) ≡ true → place + headerBytes ≤ nextPlace reel place
