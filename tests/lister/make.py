@@ -1,5 +1,5 @@
 #!/usr/bin/env python3
-"""Makes the lister's stored cases from 01: tests/lister/NAME.in and NAME.out, crates/lister/stdin and stdout, data/sample.odr.
+"""Makes the lister's stored cases from 01: tests/lister/NAME.in and NAME.out, crates/lister/stdin and stdout.
 
     make.py            # writes the files
     make.py --check    # writes nothing; fails where a file is not what it would write
@@ -164,18 +164,6 @@ def cases():
     yield "length-70000", joined(full) + bytes(4470), listing([], 24)
 
 
-# A few records of one pass, ten a second: the readback falls by a tenth of the rate from one to the next.
-def sample():
-    records = [
-        Record(
-            n + 1, 10000, "B", origin=1 if n == 0 else 0, tag_ms=43_200_000 + 100 * n,
-            readback_uhz=44_770_123_456 - 123_450 * n, rate_digits=12345, power=1, sign=0,
-        )
-        for n in range(5)
-    ]
-    return joined(records)
-
-
 def files():
     root = pathlib.Path(__file__).resolve().parent.parent.parent
     for name, data, out in cases():
@@ -183,7 +171,6 @@ def files():
         yield root / "tests" / "lister" / f"{name}.out", out.encode("ascii")
     yield root / "crates" / "lister" / "stdin", the_case()
     yield root / "crates" / "lister" / "stdout", CASE_OUT.encode("ascii")
-    yield root / "data" / "sample.odr", sample()
 
 
 def main():

@@ -122,10 +122,10 @@ pub fn record_totals(bytes: &[u8]) -> TotalsAnswer
         return no_totals(n);
     }
     let count = sample_count(bytes);
-    let end = record::HEADER_BYTES + 4 * count;
-    let stretch = &bytes[record::HEADER_BYTES..end];
+    let last = record::HEADER_BYTES + 4 * count;
+    let part = &bytes[record::HEADER_BYTES..last];
     TotalsAnswer {
         refusal: 0,
-        channels: totals::stretch_totals(stretch),
+        channels: totals::stretch_totals(part),
     }
 }

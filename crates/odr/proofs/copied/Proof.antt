@@ -3,16 +3,17 @@ use Prim.Native.Nat.{ℕ, _≤_, _-_}
 use mathlib.Core.Path.{_≡_}
 use native.Mathlib.Omega.{arith}
 use lib.ListN.{length, getD}
+use Rattle.odr.specs.Out.{longestSegment}
 use borrow.Author.Needs.{needs}
 use Rattle.lists.proofs.Fill.{Filled, filled-none, filled-more, tab-ext}
 use Rattle.odr.proofs.copied.Statement.{statement}
 use Rattle.odr.proofs.copied.Tie as tie
 
 abbrev Inv-loop : tie.InvT-loop
-Inv-loop bytes copy₀ k₀ copy k = (k ≤ 90) × (length copy₀ ≡ 90) × Filled copy₀ (λ (j : ℕ). getD bytes j 0) 0 k copy
+Inv-loop bytes copy₀ k₀ copy k = (k ≤ longestSegment) × (length copy₀ ≡ longestSegment) × Filled copy₀ (λ (j : ℕ). getD bytes j 0) 0 k copy
 
 abbrev μ-loop : tie.MeasureT-loop
-μ-loop bytes copy₀ k₀ copy k = 90 - k
+μ-loop bytes copy₀ k₀ copy k = longestSegment - k
 
 loop-holds : tie.Need-loop-holds Inv-loop μ-loop
 loop-holds c = (search needs, search needs, filled-none _ _ _)
@@ -35,7 +36,7 @@ loop-again c = (search needs, search needs, filled-more _ (search needs) (c .byt
 returns : tie.Need-returns Inv-loop μ-loop
 returns c =
     let l = c .before .loop in
-    tab-ext _ 90 0 (l .copy) (search needs) (λ k h. l .inv .2 .low k (omega (arith, h, l .inv .0)))
+    tab-ext _ longestSegment 0 (l .copy) (search needs) (λ k h. l .inv .2 .low k (omega (arith, h, l .inv .0)))
 
 pub copied-spec : {M : Type 1} → statement M
 copied-spec =

@@ -41,20 +41,20 @@ returns c =
 sample-count-requires : tie.Need-sample-count-requires
 sample-count-requires c κs = search needs
 
-mul-end : tie.Need-mul-end
-mul-end c = search needs
+mul-last : tie.Need-mul-last
+mul-last c = search needs
 
-add-end : tie.Need-add-end
-add-end c = search needs
+add-last : tie.Need-add-last
+add-last c = search needs
 
-sub-stretch : tie.Need-sub-stretch
-sub-stretch c = search needs
+sub-part : tie.Need-sub-part
+sub-part c = search needs
 
-part-stretch-start : tie.Need-part-stretch-start
-part-stretch-start c = search needs
+part-part-start : tie.Need-part-part-start
+part-part-start c = search needs
 
-part-stretch-end : tie.Need-part-stretch-end
-part-stretch-end c = inside c
+part-part-end : tie.Need-part-part-end
+part-part-end c = inside c
 
 stretch-totals-requires : tie.Need-stretch-totals-requires
 stretch-totals-requires c κs = search needs
@@ -81,10 +81,10 @@ record-totals-spec =
     no-totals-requires
     returns
     sample-count-requires
-    mul-end
-    add-end
-    sub-stretch
-    part-stretch-start
-    part-stretch-end
+    mul-last
+    add-last
+    sub-part
+    part-part-start
+    part-part-end
     stretch-totals-requires
     returns-2)
