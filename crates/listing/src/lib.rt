@@ -1,5 +1,5 @@
-// The listing of a reel as text in a lent buffer, and the line of one record. 01: "The lister", refusals 21 and 24. The public
-// functions take any bytes and any buffer; a refusal is 01's number.
+// The listing of a reel as text in a lent buffer, and the line of one record. 01: "The lister", refusals 21 and 24. The walk is by
+// the reel reader, through crate `reader_calls`. The public functions take any bytes and any buffer; a refusal is 01's number.
 ghost use mathlib.Core.Path.{_≡_};
 ghost use Prim.Native.Nat.{_≤_};
 ghost use lib.ListN.{length};
@@ -159,8 +159,8 @@ fn count_lines(reel: &[u8], steps: usize) -> Reached
     let mut place: usize = 0;
     let mut to_count = steps;
     while to_count > 0 {
-        length += line_length(reel::record_at(reel, place));
-        place = reel::next_place(reel, place);
+        length += line_length(reader_calls::record(reel, place));
+        place = reader_calls::next(reel, place);
         to_count -= 1;
     }
     Reached { length, place }
@@ -174,8 +174,8 @@ fn write_lines(out: &mut [u8], at: usize, reel: &[u8], steps: usize) -> usize
     let mut place: usize = 0;
     let mut to_write = steps;
     while to_write > 0 {
-        next = write_line(out, next, reel::record_at(reel, place));
-        place = reel::next_place(reel, place);
+        next = write_line(out, next, reader_calls::record(reel, place));
+        place = reader_calls::next(reel, place);
         to_write -= 1;
     }
     next
@@ -185,7 +185,7 @@ fn write_lines(out: &mut [u8], at: usize, reel: &[u8], steps: usize) -> usize
 fn refusal_at(reel: &[u8], place: usize) -> u8
     ensures { λ r. ⌜ r ≡ refusalOf (stepAt (now (reel .entry)) place) ⌝ }
 {
-    match reel::step_at(reel, place) {
+    match reader_calls::peek(reel, place) {
         Step::Record { start: _, end: _ } => 0,
         Step::Finished => 0,
         Step::Refused(n) => n,
