@@ -7,7 +7,7 @@ ghost use Rattle.text.specs.Writing.{Room, Written};
 ghost use Rattle.record.specs.FrequencyRate.{rateAnswer};
 ghost use Rattle.reel.specs.Reel.{stepAt};
 ghost use Rattle.times.specs.SampleTime.{timeAnswer};
-ghost use Rattle.listing.specs.Listing.{recordText, lineAnswer, lineAfter, listAnswer, listAfter};
+ghost use Rattle.listing.specs.Listing.{recordText, listing, longestListing, lineAnswer, lineAfter, listAnswer, listAfter, listedIn};
 ghost use Rattle.listing.specs.Steps.{columnsLine, lineOf, linesFrom, placeFrom, mostSteps, stepsFor, refusalOf, endRefusal, endLine};
 ghost use Rattle.listing.specs.Shown.{shownList};
 use record::RateAnswer;
@@ -17,8 +17,8 @@ use times::TimeAnswer;
 // An input longer than this is refused by 24.
 pub const LONGEST_INPUT: usize = 65_536;
 
-// A buffer of this size holds the listing of any input.
-pub const LONGEST_LISTING: usize = 65_536;
+// A buffer of this size holds the listing of any input: `longestListing` of specs/Listing.
+pub const LONGEST_LISTING: usize = 4_335;
 
 // The length of the text, or the refusal.
 pub enum ListAnswer {
@@ -239,4 +239,23 @@ pub fn list_reel(input: &[u8], out: &mut [u8]) -> ListAnswer
     let end = write_lines(out, header, input, steps);
     write_end_line(out, end, refusal);
     ListAnswer::Length(count)
+}
+
+// The length that was answered, 0 beside a refusal.
+fn length_of(answer: ListAnswer) -> usize
+    ensures { λ r. ⌜ r ≡ shownList answer .value ⌝ }
+{
+    match answer {
+        ListAnswer::Length(n) => n,
+        ListAnswer::Refused(_) => 0,
+    }
+}
+
+// The whole listing of the input, in a buffer that holds any: its length, and no refusal.
+pub fn list_whole(input: &[u8], out: &mut [u8; LONGEST_LISTING]) -> usize
+    ensures { λ r. ⌜ r ≡ length (listing (now (input .entry))) ⌝ }
+    ensures { λ _. ⌜ now (out .exit) ≡ listedIn (now (input .entry)) (now (out .entry)) ⌝ }
+    ensures { λ _. ⌜ length (now (out .entry)) ≡ longestListing ⌝ }
+{
+    length_of(list_reel(input, out))
 }
