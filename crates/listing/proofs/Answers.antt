@@ -1,15 +1,15 @@
 -- The answer of a call that writes a text, and the buffer after it, by the refusal. Assumes nothing.
 use Prim.Native.Nat.{ℕ, _≤_, _<_}
-use mathlib.Core.Path.{_≡_, refl, ap, sym, _∙_}
-use mathlib.Core.Bool.{Bool, true, false}
+use mathlib.Core.Path.{_≡_, ap, sym, _∙_}
+use mathlib.Core.Bool.{Bool}
 use mathlib.Core.List.{List, [], _∷_, _++_}
 use native.Mathlib.Nat.{zero-add}
 use native.Mathlib.Omega.{arith}
 use lib.Dec.{ltb}
 use lib.ListN.{length, drop}
 use lib.Seq.{sets, sets-eq}
-use borrow.Author.Tests.{lt-ltb, le-ltb, ltb-false}
-use Rattle.record.specs.Answer.{Answer, accepted, refused}
+use borrow.Author.Tests.{lt-ltb, le-ltb}
+use Rattle.record.specs.Answer.{accepted, refused}
 use Rattle.record.specs.Refusal.{_when_, first}
 use Rattle.record.specs.Record.{recordRefusal}
 use Rattle.record.proofs.Refusals.{then-none, then-some, unless-none, unless-some, cond-none, cond-some}
@@ -56,12 +56,3 @@ module _ (b out : List ℕ) {n : ℕ} (e : n ≡ recordRefusal b) where
   pub record-accepted : n ≡ 0 → lineRefusal b out ≡ textRefusal out (recordText b)
   unfolding lineRefusal
   record-accepted z = then-none (recordRefusal b) _ (sym e ∙ z)
-
--- the length that is answered lies within the buffer
-pub answer-inside : (out text : List ℕ) (count : ℕ) → accepted count ≡ textAnswer (textRefusal out text) text → count ≤ length out
-unfolding textAnswer textRefusal
-answer-inside out text count e = by-test (ltb (length out) (length text)) refl e
-  where
-    by-test : (t : Bool) → ltb (length out) (length text) ≡ t → accepted count ≡ textAnswer (first (21 when t ∷ [])) text → count ≤ length out
-    by-test true p q = absurd (let z : ⊥ = omega (arith, ap (λ (a : Answer ℕ). a .number) q) in z)
-    by-test false p q = let h = ltb-false (length out) (length text) p in omega (arith, ap (λ (a : Answer ℕ). a .value) q)

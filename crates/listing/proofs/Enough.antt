@@ -18,14 +18,10 @@ use Rattle.reel.proofs.Walk.{all-accepted, ends-there}
 use Rattle.text.specs.Number.{decimal, digitsIn}
 use Rattle.text.specs.Text.{headerLine, refusedLine}
 use Rattle.text.proofs.Line.{refusedLine-length}
-use Rattle.listing.specs.Listing.{longestInput, recordTexts, lastText, listing, shortestRecord, mostRecords, longestLine, longestListing, textRefusal, textAnswer, bufferAfter, listAnswer, listAfter, listedIn}
+use Rattle.listing.specs.Listing.{longestInput, recordTexts, lastText, listing, shortestRecord, mostRecords, longestLine, longestListing}
+use Rattle.listing.specs.Listing.{textRefusal, textAnswer, bufferAfter, listAnswer, listAfter, listedIn}
 use Rattle.listing.proofs.Longest.{far, texts-small, last-small, last-short}
 use Rattle.listing.proofs.Answers.{has-room}
-
--- the number that the code has
-pub longest-is : longestListing ≡ 4335
-unfolding headerLine refusedLine decimal digitsIn
-longest-is = refl
 
 module _ (input : List ℕ) where
   abbrev records : List (List ℕ)
@@ -69,7 +65,8 @@ module _ (input : List ℕ) where
   unfolding listing
   listing-small = by-test (ltb longestInput (length input)) refl
     where
-      by-test : (t : Bool) → ltb longestInput (length input) ≡ t → length (headerLine ++ cond t (refusedLine 24) walked) ≤ longestListing
+      by-test : (t : Bool) → ltb longestInput (length input) ≡ t
+          → length (headerLine ++ cond t (refusedLine 24) walked) ≤ longestListing
       by-test true e = omega (arith, length-append headerLine (refusedLine 24), refusedLine-length 24 (lit< tt))
       by-test false e =
           omega (arith, length-append headerLine walked, walked-small (ltb-false longestInput (length input) e))
@@ -78,7 +75,8 @@ pub never-21 : (input out : List ℕ) → longestListing ≤ length out → text
 never-21 input out h = has-room out (listing input) refl (le-trans (listing-small input) h)
 
 -- so that the listing is what such a buffer holds, whatever the input
-pub always-listed : (input out : List ℕ) → longestListing ≤ length out → (listAnswer input out ≡ accepted (length (listing input))) × (listAfter input out ≡ listedIn input out)
+pub always-listed : (input out : List ℕ) → longestListing ≤ length out
+    → (listAnswer input out ≡ accepted (length (listing input))) × (listAfter input out ≡ listedIn input out)
 unfolding textAnswer bufferAfter
 always-listed input out h =
     let none = never-21 input out h in

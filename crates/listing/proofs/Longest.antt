@@ -10,10 +10,9 @@ use lib.ListN.{length, drop, take, length-append, length-drop}
 use borrow.Author.Tests.{lt-ltb, leb-true, leb-false}
 use Rattle.record.specs.Refusal.{_when_, first, _then_}
 use Rattle.record.specs.Record.{headerBytes, recordRefusal}
-use Rattle.reel.specs.Reel.{Found, accepted, finished, refused, headerWords, wordThree, restRefusal, foundIn, stepAt, recordAt, nextPlace}
+use Rattle.reel.specs.Reel.{Found, accepted, finished, refused, headerWords, wordThree, restRefusal, stepAt, recordAt, nextPlace}
 use Rattle.reel.specs.Walk.{Walk, isRecord, onward, walkFrom, AllAccepted}
 use Rattle.reel.proofs.Place.{Told, told, moved, split, step-finished, step-found, found-refused}
-use Rattle.text.specs.Number.{decimal, digitsIn}
 use Rattle.text.specs.Text.{refusedLine}
 use Rattle.text.proofs.Line.{refusedLine-length}
 use Rattle.listing.specs.Listing.{recordText, recordTexts, lastText, shortestRecord, longestLine}

@@ -6,8 +6,10 @@ use lib.ListN.{length}
 use denote.Ref.{now}
 use borrow.Author.Needs.{needs}
 use Rattle.record.specs.Answer.{Answer}
+use Rattle.text.specs.Number.{decimal, digitsIn}
+use Rattle.text.specs.Text.{headerLine, refusedLine}
 use Rattle.listing.specs.Listing.{longestListing}
-use Rattle.listing.proofs.Enough.{longest-is, always-listed}
+use Rattle.listing.proofs.Enough.{always-listed}
 use Rattle.listing.proofs.list_whole.Statement.{statement}
 use Rattle.listing.proofs.list_whole.Tie as tie
 
@@ -18,10 +20,11 @@ length-of-requires : tie.Need-length-of-requires
 length-of-requires c κs = search needs
 
 returns : tie.Need-returns
+unfolding headerLine refusedLine decimal digitsIn
 returns c =
     let r = c .before in
     let a = r .before .before .before .args in
-    let size : length (now (a .out)) ≡ longestListing = omega (arith, longest-is) in
+    let size : length (now (a .out)) ≡ longestListing = omega arith in
     let always = always-listed (now (a .input)) (now (a .out)) (omega (arith, size)) in (
       c .length-of .ensures ∙ ap (λ (x : Answer ℕ). x .value) (r .list-reel .ensures .0 ∙ always .0),
       (r .list-reel .ensures .1 ∙ always .1, size),
