@@ -92,9 +92,13 @@ module _ (b : List ℕ) (e : recordRefusal b ≡ 0) where
   pub line-small : length (recordText b) ≤ longestLine
   unfolding recordText
   line-small =
-      recordLine-length (headerOf b .«record_number») (timeAnswer b 0 .value) (headerOf b .«clock_origin») (headerOf b .«readback_uhz») (rateAnswer b .value)
-      (omega (arith, number-small))
-      time-small
-      (omega (arith, origin-small))
-      frequency-small
-      rate-small
+      let h = headerOf b in
+      omega (
+        arith,
+        recordLine-length (h .«record_number») (timeAnswer b 0 .value) (h .«clock_origin») (h .«readback_uhz») (rateAnswer b .value)
+            (omega (arith, number-small))
+            time-small
+            (omega (arith, origin-small))
+            frequency-small
+            rate-small,
+      )
