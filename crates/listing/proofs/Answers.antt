@@ -13,18 +13,18 @@ use Rattle.record.specs.Answer.{accepted, refused}
 use Rattle.record.specs.Refusal.{_when_, first}
 use Rattle.record.specs.Record.{recordRefusal}
 use Rattle.record.proofs.Refusals.{then-none, then-some, unless-none, unless-some, cond-none, cond-some}
-use Rattle.listing.specs.Listing.{recordText, textRefusal, lineRefusal, textAnswer, bufferAfter}
+use Rattle.listing.specs.Listing.{recordText, textRefusal, lineRefusal, textAnswer, textOver, bufferAfter}
 
 module _ (n : ℕ) (out text : List ℕ) where
   pub text-refused : {m : ℕ} → m ≡ n → (m ≡ 0 → ⊥) → (refused 0 m ≡ textAnswer n text) × (out ≡ bufferAfter n out text)
   unfolding textAnswer bufferAfter
   text-refused e some = (
     ap (refused 0) e ∙ unless-some n 0 (length text) (λ z. some (e ∙ z)),
-    sym (cond-some n out (text ++ drop (length text) out) (λ z. some (e ∙ z))),
+    sym (cond-some n out (textOver text out) (λ z. some (e ∙ z))),
   )
 
   -- the text stored from place 0 on
-  stored : length text ≤ length out → sets out 0 text ≡ text ++ drop (length text) out
+  stored : length text ≤ length out → sets out 0 text ≡ textOver text out
   stored h = sets-eq text out 0 (omega arith) ∙ ap (λ (k : ℕ). text ++ drop k out) (zero-add (length text))
 
   pub text-written : {count : ℕ} {after : List ℕ} → n ≡ 0 → count ≡ length text → count ≤ length out → after ≡ sets out 0 text
@@ -32,7 +32,7 @@ module _ (n : ℕ) (out text : List ℕ) where
   unfolding textAnswer bufferAfter
   text-written e f h g = (
     ap accepted f ∙ unless-none n 0 (length text) e,
-    g ∙ stored (omega (arith, f)) ∙ sym (cond-none n out (text ++ drop (length text) out) e),
+    g ∙ stored (omega (arith, f)) ∙ sym (cond-none n out (textOver text out) e),
   )
 
 -- the text's length against the buffer's

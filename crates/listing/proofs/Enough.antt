@@ -19,7 +19,7 @@ use Rattle.text.specs.Number.{decimal, digitsIn}
 use Rattle.text.specs.Text.{headerLine, refusedLine}
 use Rattle.text.proofs.Line.{refusedLine-length}
 use Rattle.listing.specs.Listing.{longestInput, recordTexts, lastText, listing, shortestRecord, mostRecords, longestLine, longestListing}
-use Rattle.listing.specs.Listing.{textRefusal, textAnswer, bufferAfter, listAnswer, listAfter, listedIn}
+use Rattle.listing.specs.Listing.{textRefusal, textAnswer, textOver, bufferAfter, listAnswer, listAfter}
 use Rattle.listing.proofs.Longest.{far, texts-small, last-small, last-short}
 use Rattle.listing.proofs.Answers.{has-room}
 
@@ -76,7 +76,7 @@ never-21 input out h = has-room out (listing input) refl (le-trans (listing-smal
 
 -- so that the listing is what such a buffer holds, whatever the input
 pub always-listed : (input out : List ℕ) → longestListing ≤ length out
-    → (listAnswer input out ≡ accepted (length (listing input))) × (listAfter input out ≡ listedIn input out)
+    → (listAnswer input out ≡ accepted (length (listing input))) × (listAfter input out ≡ textOver (listing input) out)
 unfolding textAnswer bufferAfter
 always-listed input out h =
     let none = never-21 input out h in

@@ -71,8 +71,11 @@ unfoldable pub textAnswer : ℕ → List ℕ → Answer ℕ
 textAnswer n text = unless n 0 (length text)
 
 -- the buffer after it: the text, then what the buffer held past it; a refusal changes nothing
+abbrev pub textOver : List ℕ → List ℕ → List ℕ
+textOver text out = text ++ drop (length text) out
+
 unfoldable pub bufferAfter : ℕ → List ℕ → List ℕ → List ℕ
-bufferAfter n out text = cond (eqb n 0) (text ++ drop (length text) out) out
+bufferAfter n out text = cond (eqb n 0) (textOver text out) out
 
 -- the line of a record: 1 to 11, then 21
 unfoldable pub lineRefusal : List ℕ → List ℕ → ℕ
@@ -90,7 +93,3 @@ listAnswer input out = textAnswer (textRefusal out (listing input)) (listing inp
 
 abbrev pub listAfter : List ℕ → List ℕ → List ℕ
 listAfter input out = bufferAfter (textRefusal out (listing input)) out (listing input)
-
--- a buffer that holds any listing, after it: the listing, then what the buffer held past it
-abbrev pub listedIn : List ℕ → List ℕ → List ℕ
-listedIn input out = listing input ++ drop (length (listing input)) out

@@ -7,7 +7,7 @@ ghost use Rattle.text.specs.Writing.{Room, Written};
 ghost use Rattle.record.specs.FrequencyRate.{rateAnswer};
 ghost use Rattle.reel.specs.Reel.{stepAt};
 ghost use Rattle.times.specs.SampleTime.{timeAnswer};
-ghost use Rattle.listing.specs.Listing.{recordText, listing, longestListing, lineAnswer, lineAfter, listAnswer, listAfter, listedIn};
+ghost use Rattle.listing.specs.Listing.{recordText, listing, longestListing, textOver, lineAnswer, lineAfter, listAnswer, listAfter};
 ghost use Rattle.listing.specs.Steps.{columnsLine, lineOf, linesFrom, placeFrom, mostSteps, stepsFor, refusalOf, endRefusal, endLine};
 ghost use Rattle.listing.specs.Shown.{shownList};
 use record::RateAnswer;
@@ -251,10 +251,10 @@ fn length_of(answer: ListAnswer) -> usize
     }
 }
 
-// The whole listing of the input, in a buffer that holds any: its length, and no refusal.
+// The whole listing of the input, from the start of a buffer of the longest listing's length: nothing is refused.
 pub fn list_whole(input: &[u8], out: &mut [u8; LONGEST_LISTING]) -> usize
     ensures { λ r. ⌜ r ≡ length (listing (now (input .entry))) ⌝ }
-    ensures { λ _. ⌜ now (out .exit) ≡ listedIn (now (input .entry)) (now (out .entry)) ⌝ }
+    ensures { λ _. ⌜ now (out .exit) ≡ textOver (listing (now (input .entry))) (now (out .entry)) ⌝ }
     ensures { λ _. ⌜ length (now (out .entry)) ≡ longestListing ⌝ }
 {
     length_of(list_reel(input, out))
