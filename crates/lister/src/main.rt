@@ -4,7 +4,6 @@ ghost use Rattle.lister.specs.Input.{Within};
 use libc::STDERR_FILENO;
 use libc::STDIN_FILENO;
 use libc::STDOUT_FILENO;
-use listing::ListAnswer;
 
 // One byte past the longest input is enough to know that an input is too long.
 const INPUT_BYTES: usize = listing::LONGEST_INPUT + 1;
@@ -55,13 +54,11 @@ fn write_out(text: &[u8]) {
     }
 }
 
-// The buffer holds any listing, so that 21 is never the answer.
+// The buffer holds any listing, so that nothing is refused.
 fn list(input: &[u8]) {
     let mut text = [0u8; listing::LONGEST_LISTING];
-    match listing::list_reel(input, &mut text) {
-        ListAnswer::Length(n) => write_out(&text[..n]),
-        ListAnswer::Refused(_) => complain(b"lister: refused,21\n"),
-    }
+    let length = listing::list_whole(input, &mut text);
+    write_out(&text[..length]);
 }
 
 fn main() {

@@ -10,7 +10,7 @@ use Rattle.record.proofs.Accepted.{record-facts}
 use Rattle.reel.specs.Reel.{Found, accepted, finished, refused, stepAt, bytesFound, recordAt, nextPlace}
 use Rattle.reel.specs.Walk.{Walk, isRecord, stopped, onward, walkFrom}
 use Rattle.reel.proofs.Place.{moved, stays}
-use Rattle.listing.specs.Listing.{recordText, recordTexts}
+use Rattle.listing.specs.Listing.{recordText, recordTexts, longestLine}
 use Rattle.listing.specs.Steps.{lineOf, linesFrom, placeFrom}
 use Rattle.listing.proofs.Line.{line-small}
 
@@ -37,10 +37,10 @@ module _ (reel : List ℕ) (place : ℕ) where
       by-found finished t = refl
       by-found (refused n) t = refl
 
-  line-at : length (lineOf (recordAt reel place)) ≤ 52
+  line-at : length (lineOf (recordAt reel place)) ≤ longestLine
   line-at = by-test (isRecord (stepAt reel place)) refl
     where
-      by-test : (t : Bool) → isRecord (stepAt reel place) ≡ t → length (lineOf (recordAt reel place)) ≤ 52
+      by-test : (t : Bool) → isRecord (stepAt reel place) ≡ t → length (lineOf (recordAt reel place)) ≤ longestLine
       by-test true e =
           let good = moved reel place e .good in
           omega (arith, line-small (recordAt reel place) good, ap length (accepted-line (recordAt reel place) good))
@@ -70,8 +70,8 @@ module _ (reel : List ℕ) where
       let e : n ≡ suc n - 1 = omega arith in
       ap (λ (k : ℕ). placeFrom reel k (nextPlace reel place)) e
 
-  -- n lines have at most 52 n bytes
-  pub lines-small : (n place : ℕ) → length (linesFrom reel n place) ≤ 52 * n
+  -- n lines are at most n longest lines
+  pub lines-small : (n place : ℕ) → length (linesFrom reel n place) ≤ longestLine * n
   unfolding linesFrom
   lines-small zero place = omega arith
   lines-small (suc n) place =

@@ -1,30 +1,30 @@
 -- The answer of a call that writes a text, and the buffer after it, by the refusal. Assumes nothing.
 use Prim.Native.Nat.{ℕ, _≤_, _<_}
-use mathlib.Core.Path.{_≡_, refl, ap, sym, _∙_}
-use mathlib.Core.Bool.{Bool, true, false}
+use mathlib.Core.Path.{_≡_, ap, sym, _∙_}
+use mathlib.Core.Bool.{Bool}
 use mathlib.Core.List.{List, [], _∷_, _++_}
 use native.Mathlib.Nat.{zero-add}
 use native.Mathlib.Omega.{arith}
 use lib.Dec.{ltb}
 use lib.ListN.{length, drop}
 use lib.Seq.{sets, sets-eq}
-use borrow.Author.Tests.{lt-ltb, le-ltb, ltb-false}
-use Rattle.record.specs.Answer.{Answer, accepted, refused}
+use borrow.Author.Tests.{lt-ltb, le-ltb}
+use Rattle.record.specs.Answer.{accepted, refused}
 use Rattle.record.specs.Refusal.{_when_, first}
 use Rattle.record.specs.Record.{recordRefusal}
 use Rattle.record.proofs.Refusals.{then-none, then-some, unless-none, unless-some, cond-none, cond-some}
-use Rattle.listing.specs.Listing.{recordText, textRefusal, lineRefusal, textAnswer, bufferAfter}
+use Rattle.listing.specs.Listing.{recordText, textRefusal, lineRefusal, textAnswer, textOver, bufferAfter}
 
 module _ (n : ℕ) (out text : List ℕ) where
   pub text-refused : {m : ℕ} → m ≡ n → (m ≡ 0 → ⊥) → (refused 0 m ≡ textAnswer n text) × (out ≡ bufferAfter n out text)
   unfolding textAnswer bufferAfter
   text-refused e some = (
     ap (refused 0) e ∙ unless-some n 0 (length text) (λ z. some (e ∙ z)),
-    sym (cond-some n out (text ++ drop (length text) out) (λ z. some (e ∙ z))),
+    sym (cond-some n out (textOver text out) (λ z. some (e ∙ z))),
   )
 
   -- the text stored from place 0 on
-  stored : length text ≤ length out → sets out 0 text ≡ text ++ drop (length text) out
+  stored : length text ≤ length out → sets out 0 text ≡ textOver text out
   stored h = sets-eq text out 0 (omega arith) ∙ ap (λ (k : ℕ). text ++ drop k out) (zero-add (length text))
 
   pub text-written : {count : ℕ} {after : List ℕ} → n ≡ 0 → count ≡ length text → count ≤ length out → after ≡ sets out 0 text
@@ -32,7 +32,7 @@ module _ (n : ℕ) (out text : List ℕ) where
   unfolding textAnswer bufferAfter
   text-written e f h g = (
     ap accepted f ∙ unless-none n 0 (length text) e,
-    g ∙ stored (omega (arith, f)) ∙ sym (cond-none n out (text ++ drop (length text) out) e),
+    g ∙ stored (omega (arith, f)) ∙ sym (cond-none n out (textOver text out) e),
   )
 
 -- the text's length against the buffer's
@@ -56,12 +56,3 @@ module _ (b out : List ℕ) {n : ℕ} (e : n ≡ recordRefusal b) where
   pub record-accepted : n ≡ 0 → lineRefusal b out ≡ textRefusal out (recordText b)
   unfolding lineRefusal
   record-accepted z = then-none (recordRefusal b) _ (sym e ∙ z)
-
--- the length that is answered lies within the buffer
-pub answer-inside : (out text : List ℕ) (count : ℕ) → accepted count ≡ textAnswer (textRefusal out text) text → count ≤ length out
-unfolding textAnswer textRefusal
-answer-inside out text count e = by-test (ltb (length out) (length text)) refl e
-  where
-    by-test : (t : Bool) → ltb (length out) (length text) ≡ t → accepted count ≡ textAnswer (first (21 when t ∷ [])) text → count ≤ length out
-    by-test true p q = absurd (let z : ⊥ = omega (arith, ap (λ (a : Answer ℕ). a .number) q) in z)
-    by-test false p q = let h = ltb-false (length out) (length text) p in omega (arith, ap (λ (a : Answer ℕ). a .value) q)

@@ -1,37 +1,82 @@
--- THE BUFFER IS ENOUGH: no input has a listing longer than 65,536 bytes, so that a buffer of that size never gives 21. A record has
--- at least 80 bytes and its line at most 52, so that an input that is not refused by 24 has at most 819 lines. Assumes nothing.
-use Prim.Native.Nat.{ℕ, _≤_}
+-- THE BUFFER IS ENOUGH: no input has a listing longer than `longestListing`, so that a buffer of that size never gives 21.
+-- Assumes nothing.
+use Prim.Native.Nat.{ℕ, _+_, _*_, _/_, _≤_}
 use mathlib.Core.Path.{_≡_, refl, ap}
+use mathlib.Core.Bool.{Bool, true, false, cond}
 use mathlib.Core.List.{List, _++_}
 use native.Mathlib.Nat.{le-trans}
 use native.Mathlib.Omega.{arith}
-use lib.ListN.{length, drop}
+use lib.Dec.{ltb, lit<}
+use lib.ListN.{length, length-append}
+use borrow.Author.Tests.{ltb-true, ltb-false}
 use Rattle.record.specs.Answer.{accepted}
-use Rattle.text.specs.Text.{headerLine}
-use Rattle.listing.specs.Listing.{listing, textRefusal, textAnswer, bufferAfter, listAnswer, listAfter}
-use Rattle.listing.specs.Steps.{placeFrom, stepsFor, endRefusal}
-use Rattle.listing.proofs.Along.{lines-small}
-use Rattle.listing.proofs.Listed.{listed, listed-length, steps-small, last-small}
+use Rattle.record.specs.Record.{headerBytes}
+use Rattle.reel.specs.Reel.{Found, stepAt}
+use Rattle.reel.specs.Walk.{walk}
+use Rattle.reel.proofs.Onward.{along}
+use Rattle.reel.proofs.Walk.{all-accepted, ends-there}
+use Rattle.text.specs.Number.{decimal, digitsIn}
+use Rattle.text.specs.Text.{headerLine, refusedLine}
+use Rattle.text.proofs.Line.{refusedLine-length}
+use Rattle.listing.specs.Listing.{longestInput, recordTexts, lastText, listing, shortestRecord, mostRecords, longestLine, longestListing}
+use Rattle.listing.specs.Listing.{textRefusal, textAnswer, textOver, bufferAfter, listAnswer, listAfter}
+use Rattle.listing.proofs.Longest.{far, texts-small, last-small, last-short}
 use Rattle.listing.proofs.Answers.{has-room}
 
-pub listing-small : (input : List ℕ) → length (listing input) ≤ 65536
-unfolding headerLine
-listing-small input =
-    let steps = stepsFor (length input) in
-    let place = placeFrom input steps 0 in
-    omega (
-      arith,
-      listed-length input steps (endRefusal input place) (listed input refl refl refl),
-      lines-small input steps 0,
-      steps-small (length input),
-      last-small input place,
-    )
+module _ (input : List ℕ) where
+  abbrev records : List (List ℕ)
+  records = walk input .records
 
-pub never-21 : (input out : List ℕ) → 65536 ≤ length out → textRefusal out (listing input) ≡ 0
+  abbrev place : ℕ
+  place = walk input .place
+
+  abbrev walked : List ℕ
+  walked = recordTexts records ++ lastText (walk input .last)
+
+  -- the records lie one behind the other in the input
+  inside : (shortestRecord * length records ≤ place) × (place ≤ length input)
+  unfolding walk
+  inside =
+      (omega (arith, far input (length input / headerBytes) 0), along input (length input / headerBytes) 0 .inside (omega arith))
+
+  -- what is written of them, with a last line of at most m bytes
+  walked-within : (m : ℕ) → length (lastText (stepAt input place)) ≤ m → length walked ≤ longestLine * length records + m
+  walked-within m h =
+      omega (
+        arith,
+        length-append (recordTexts records) (lastText (walk input .last)),
+        texts-small records (all-accepted input),
+        ap (λ (f : Found). length (lastText f)) (ends-there input),
+      )
+
+  -- 84 records leave too few bytes for a header, so that the last line is short; fewer records leave room for any last line
+  walked-small : length input ≤ longestInput → length walked ≤ mostRecords * longestLine + length (refusedLine 1)
+  unfolding refusedLine decimal digitsIn
+  walked-small h = by-test (ltb (length records) mostRecords) refl
+    where
+      by-test : (t : Bool) → ltb (length records) mostRecords ≡ t → length walked ≤ mostRecords * longestLine + 10
+      by-test true e = omega (arith, ltb-true (length records) mostRecords e, walked-within 11 (last-small input place))
+      by-test false e =
+          let many = ltb-false (length records) mostRecords e in
+          let i = inside in
+          omega (arith, i .0, i .1, walked-within 10 (last-short input place (omega (arith, i .0, i .1))))
+
+  pub listing-small : length (listing input) ≤ longestListing
+  unfolding listing
+  listing-small = by-test (ltb longestInput (length input)) refl
+    where
+      by-test : (t : Bool) → ltb longestInput (length input) ≡ t
+          → length (headerLine ++ cond t (refusedLine 24) walked) ≤ longestListing
+      by-test true e = omega (arith, length-append headerLine (refusedLine 24), refusedLine-length 24 (lit< tt))
+      by-test false e =
+          omega (arith, length-append headerLine walked, walked-small (ltb-false longestInput (length input) e))
+
+pub never-21 : (input out : List ℕ) → longestListing ≤ length out → textRefusal out (listing input) ≡ 0
 never-21 input out h = has-room out (listing input) refl (le-trans (listing-small input) h)
 
 -- so that the listing is what such a buffer holds, whatever the input
-pub always-listed : (input out : List ℕ) → 65536 ≤ length out → (listAnswer input out ≡ accepted (length (listing input))) × (listAfter input out ≡ listing input ++ drop (length (listing input)) out)
+pub always-listed : (input out : List ℕ) → longestListing ≤ length out
+    → (listAnswer input out ≡ accepted (length (listing input))) × (listAfter input out ≡ textOver (listing input) out)
 unfolding textAnswer bufferAfter
 always-listed input out h =
     let none = never-21 input out h in

@@ -1,4 +1,6 @@
 pub mod Line
+pub mod Shortest
+pub mod Longest
 pub mod Along
 pub mod Listed
 pub mod Answers

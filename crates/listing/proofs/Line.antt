@@ -1,4 +1,4 @@
--- The line of a record from its columns; that of an accepted record has at most 52 bytes. Assumes nothing.
+-- The line of a record from its columns; that of an accepted record has at most 51 bytes. Assumes nothing.
 use Prim.Native.Nat.{ℕ, zero, suc, _*_, _^_, _≤_, _<_}
 use mathlib.Core.Path.{_≡_, refl, ap, _∙_}
 use mathlib.Core.Bool.{Bool, true, false, cond}
@@ -26,7 +26,7 @@ use Rattle.text.specs.Text.{recordLine}
 use Rattle.text.proofs.Line.{recordLine-length}
 use Rattle.times.specs.SampleTime.{timeRefusal, timeAnswer}
 use Rattle.listing.specs.declared.Columns.{Columns}
-use Rattle.listing.specs.Listing.{recordText}
+use Rattle.listing.specs.Listing.{recordText, longestLine}
 use Rattle.listing.specs.Steps.{columnsLine}
 
 -- the columns of a record, each as it was read
@@ -73,11 +73,11 @@ module _ (b : List ℕ) (e : recordRefusal b ≡ 0) where
   unfolding headerOf
   frequency-small = ltb→lt _ _ (fit-at decimalFits fields (readAll fields b) 26 (values-small b e .0) (lit< tt))
 
-  time-small : timeAnswer b 0 .value < 10 ^ 12
+  time-small : timeAnswer b 0 .value < 10 ^ 11
   unfolding timeAnswer
   time-small =
       let tag = record-facts b e .tag in
-      unless-value (λ (t : ℕ). t < 10 ^ 12) (timeRefusal b 0) 0 _ (lit< tt) (omega (arith, tag))
+      unless-value (λ (t : ℕ). t < 10 ^ 11) (timeRefusal b 0) 0 _ (lit< tt) (omega (arith, tag))
 
   rate-small : natAbs (rateAnswer b .value) ≤ 99999 * 10 ^ 7
   unfolding rateAnswer
@@ -89,12 +89,16 @@ module _ (b : List ℕ) (e : recordRefusal b ≡ 0) where
       (omega arith)
       (omega (arith, rate-size (h .«rate_digits») (h .«rate_power») (h .«rate_sign»), size))
 
-  pub line-small : length (recordText b) ≤ 52
+  pub line-small : length (recordText b) ≤ longestLine
   unfolding recordText
   line-small =
-      recordLine-length (headerOf b .«record_number») (timeAnswer b 0 .value) (headerOf b .«clock_origin») (headerOf b .«readback_uhz») (rateAnswer b .value)
-      (omega (arith, number-small))
-      time-small
-      (omega (arith, origin-small))
-      frequency-small
-      rate-small
+      let h = headerOf b in
+      omega (
+        arith,
+        recordLine-length (h .«record_number») (timeAnswer b 0 .value) (h .«clock_origin») (h .«readback_uhz») (rateAnswer b .value)
+            (omega (arith, number-small))
+            time-small
+            (omega (arith, origin-small))
+            frequency-small
+            rate-small,
+      )

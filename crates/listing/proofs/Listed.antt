@@ -4,7 +4,7 @@ use mathlib.Core.Path.{_≡_, refl, ap, sym, _∙_}
 use mathlib.Core.Bool.{Bool, true, false, cond}
 use mathlib.Core.List.{List, [], _++_}
 use native.Mathlib.Omega.{arith}
-use lib.Dec.{ltb, eqb}
+use lib.Dec.{ltb}
 use lib.ListN.{length, length-append}
 use borrow.Author.Tests.{ltb-false}
 use Rattle.record.specs.Record.{headerBytes}
@@ -14,7 +14,6 @@ use Rattle.reel.specs.Walk.{walk}
 use Rattle.reel.proofs.Place.{Told, told}
 use Rattle.reel.proofs.Walk.{ends-there}
 use Rattle.text.specs.Text.{headerLine, refusedLine}
-use Rattle.text.proofs.Line.{refusedLine-length}
 use Rattle.listing.specs.Listing.{longestInput, recordTexts, lastText, listing}
 use Rattle.listing.specs.Steps.{linesFrom, placeFrom, stepsFor, mostSteps, refusalOf, endRefusal, endLine}
 use Rattle.listing.proofs.Along.{same-walk}
@@ -77,27 +76,3 @@ steps-small n = by-test (ltb longestInput n) refl
     by-test : (t : Bool) → ltb longestInput n ≡ t → cond t 0 (n / headerBytes) ≤ mostSteps
     by-test true e = omega arith
     by-test false e = let h = ltb-false longestInput n e in omega arith
-
--- the last line
-end-number : (input : List ℕ) (place : ℕ) → endRefusal input place ≤ 24
-unfolding endRefusal
-end-number input place = by-test (ltb longestInput (length input))
-  where
-    found-number : (f : Found) → Told input place f → refusalOf f ≤ 24
-    found-number (accepted start end) t = omega arith
-    found-number finished t = omega arith
-    found-number (refused n) t = let h = t .2 in omega arith
-
-    by-test : (t : Bool) → cond t 24 (refusalOf (stepAt input place)) ≤ 24
-    by-test true = omega arith
-    by-test false = found-number (stepAt input place) (told input place)
-
-end-small : (n : ℕ) → n ≤ 24 → length (endLine n) ≤ 11
-end-small n h = by-test (eqb n 0)
-  where
-    by-test : (t : Bool) → length (cond t [] (refusedLine n)) ≤ 11
-    by-test true = omega arith
-    by-test false = refusedLine-length n (omega arith)
-
-pub last-small : (input : List ℕ) (place : ℕ) → length (endLine (endRefusal input place)) ≤ 11
-last-small input place = end-small (endRefusal input place) (end-number input place)

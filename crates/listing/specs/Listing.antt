@@ -1,6 +1,6 @@
 -- What the lister writes, and what a call answers that writes text into a lent buffer. 01: "The lister", refusals 21 and 24. The
 -- lines themselves are in crate `text`, the walk along a reel in crate `reel`.
-use Prim.Native.Nat.{ℕ}
+use Prim.Native.Nat.{ℕ, _+_, _*_, _/_}
 use mathlib.Core.Bool.{cond}
 use mathlib.Core.List.{List, [], _∷_, _++_}
 use lib.Dec.{eqb, ltb}
@@ -41,6 +41,27 @@ listing input =
     headerLine
     ++ cond (ltb longestInput (length input)) (refusedLine 24) (recordTexts (walk input .records) ++ lastText (walk input .last))
 
+-- ## the longest listing
+
+-- the shortest record: 390 words, those of OP-A at a rate of 200
+abbrev pub shortestRecord : ℕ
+shortestRecord = 2 * 390
+
+-- an input that 24 does not refuse holds at most 84 records, since 84 * 780 is 65,520
+abbrev pub mostRecords : ℕ
+mostRecords = longestInput / shortestRecord
+
+-- the longest line of a record: a number of 5 digits, a time of 11 (86,399,999,000), the clock origin, a frequency of 8 digits, the
+-- point and 6 places, a rate of a minus, 7 digits, the point and 5 places, and behind each of these a comma or the line feed
+abbrev pub longestLine : ℕ
+longestLine = (5 + 1) + (11 + 1) + (1 + 1) + (8 + 1 + 6 + 1) + (1 + 7 + 1 + 5 + 1)
+
+-- the longest listing: the header line, that many longest lines and, for the 16 bytes then left, `refused,1`: 41 + 84 * 51 + 10 bytes
+abbrev pub longestListing : ℕ
+longestListing = length headerLine + mostRecords * longestLine + length (refusedLine 1)
+
+-- ## the answers
+
 -- 21: "text buffer holds fewer bytes than the text"
 unfoldable pub textRefusal : List ℕ → List ℕ → ℕ
 textRefusal out text = first (21 when ltb (length out) (length text) ∷ [])
@@ -50,8 +71,11 @@ unfoldable pub textAnswer : ℕ → List ℕ → Answer ℕ
 textAnswer n text = unless n 0 (length text)
 
 -- the buffer after it: the text, then what the buffer held past it; a refusal changes nothing
+abbrev pub textOver : List ℕ → List ℕ → List ℕ
+textOver text out = text ++ drop (length text) out
+
 unfoldable pub bufferAfter : ℕ → List ℕ → List ℕ → List ℕ
-bufferAfter n out text = cond (eqb n 0) (text ++ drop (length text) out) out
+bufferAfter n out text = cond (eqb n 0) (textOver text out) out
 
 -- the line of a record: 1 to 11, then 21
 unfoldable pub lineRefusal : List ℕ → List ℕ → ℕ

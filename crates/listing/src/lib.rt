@@ -1,5 +1,5 @@
-// The listing of a reel as text in a lent buffer, and the line of one record. 01: "The lister", refusals 21 and 24. The public
-// functions take any bytes and any buffer; a refusal is 01's number.
+// The listing of a reel as text in a lent buffer, and the line of one record. 01: "The lister", refusals 21 and 24. The walk is by
+// the reel reader, through crate `reader_calls`. The public functions take any bytes and any buffer; a refusal is 01's number.
 ghost use mathlib.Core.Path.{_≡_};
 ghost use Prim.Native.Nat.{_≤_};
 ghost use lib.ListN.{length};
@@ -7,7 +7,7 @@ ghost use Rattle.text.specs.Writing.{Room, Written};
 ghost use Rattle.record.specs.FrequencyRate.{rateAnswer};
 ghost use Rattle.reel.specs.Reel.{stepAt};
 ghost use Rattle.times.specs.SampleTime.{timeAnswer};
-ghost use Rattle.listing.specs.Listing.{recordText, lineAnswer, lineAfter, listAnswer, listAfter};
+ghost use Rattle.listing.specs.Listing.{recordText, listing, longestListing, textOver, lineAnswer, lineAfter, listAnswer, listAfter};
 ghost use Rattle.listing.specs.Steps.{columnsLine, lineOf, linesFrom, placeFrom, mostSteps, stepsFor, refusalOf, endRefusal, endLine};
 ghost use Rattle.listing.specs.Shown.{shownList};
 use record::RateAnswer;
@@ -17,8 +17,8 @@ use times::TimeAnswer;
 // An input longer than this is refused by 24.
 pub const LONGEST_INPUT: usize = 65_536;
 
-// A buffer of this size holds the listing of any input.
-pub const LONGEST_LISTING: usize = 65_536;
+// A buffer of this size holds the listing of any input: `longestListing` of specs/Listing.
+pub const LONGEST_LISTING: usize = 4_335;
 
 // The length of the text, or the refusal.
 pub enum ListAnswer {
@@ -159,8 +159,8 @@ fn count_lines(reel: &[u8], steps: usize) -> Reached
     let mut place: usize = 0;
     let mut to_count = steps;
     while to_count > 0 {
-        length += line_length(reel::record_at(reel, place));
-        place = reel::next_place(reel, place);
+        length += line_length(reader_calls::record(reel, place));
+        place = reader_calls::next(reel, place);
         to_count -= 1;
     }
     Reached { length, place }
@@ -174,8 +174,8 @@ fn write_lines(out: &mut [u8], at: usize, reel: &[u8], steps: usize) -> usize
     let mut place: usize = 0;
     let mut to_write = steps;
     while to_write > 0 {
-        next = write_line(out, next, reel::record_at(reel, place));
-        place = reel::next_place(reel, place);
+        next = write_line(out, next, reader_calls::record(reel, place));
+        place = reader_calls::next(reel, place);
         to_write -= 1;
     }
     next
@@ -185,7 +185,7 @@ fn write_lines(out: &mut [u8], at: usize, reel: &[u8], steps: usize) -> usize
 fn refusal_at(reel: &[u8], place: usize) -> u8
     ensures { λ r. ⌜ r ≡ refusalOf (stepAt (now (reel .entry)) place) ⌝ }
 {
-    match reel::step_at(reel, place) {
+    match reader_calls::peek(reel, place) {
         Step::Record { start: _, end: _ } => 0,
         Step::Finished => 0,
         Step::Refused(n) => n,
@@ -239,4 +239,23 @@ pub fn list_reel(input: &[u8], out: &mut [u8]) -> ListAnswer
     let end = write_lines(out, header, input, steps);
     write_end_line(out, end, refusal);
     ListAnswer::Length(count)
+}
+
+// The length that was answered, 0 beside a refusal.
+fn length_of(answer: ListAnswer) -> usize
+    ensures { λ r. ⌜ r ≡ shownList answer .value ⌝ }
+{
+    match answer {
+        ListAnswer::Length(n) => n,
+        ListAnswer::Refused(_) => 0,
+    }
+}
+
+// The whole listing of the input, from the start of a buffer of the longest listing's length: nothing is refused.
+pub fn list_whole(input: &[u8], out: &mut [u8; LONGEST_LISTING]) -> usize
+    ensures { λ r. ⌜ r ≡ length (listing (now (input .entry))) ⌝ }
+    ensures { λ _. ⌜ now (out .exit) ≡ textOver (listing (now (input .entry))) (now (out .entry)) ⌝ }
+    ensures { λ _. ⌜ length (now (out .entry)) ≡ longestListing ⌝ }
+{
+    length_of(list_reel(input, out))
 }

@@ -31,12 +31,12 @@ unfolding signedFixed
 signed-length k (pos n) = omega arith
 signed-length k (negsuc n) = omega arith
 
--- a record's line has at most 52 bytes: 5 for the number, 12 for the time, 1 for the origin, 15 for the frequency, 14 for the
+-- a record's line has at most 51 bytes: 5 for the number, 11 for the time, 1 for the origin, 15 for the frequency, 14 for the
 -- rate with its minus, and 5 for the commas and the line feed
-pub recordLine-length : (number first origin frequency : ℕ) (rate : ℤ) → number ≤ 65535 → first < 10 ^ 12 → origin ≤ 1 → frequency < 10 ^ 14 → natAbs rate ≤ 99999 * 10 ^ 7 → length (recordLine number first origin frequency rate) ≤ 52
+pub recordLine-length : (number first origin frequency : ℕ) (rate : ℤ) → number ≤ 65535 → first < 10 ^ 11 → origin ≤ 1 → frequency < 10 ^ 14 → natAbs rate ≤ 99999 * 10 ^ 7 → length (recordLine number first origin frequency rate) ≤ 51
 recordLine-length number first origin frequency rate hn hf ho hq hr =
     let n = decimal-length 5 number (lit< tt) (omega arith) in
-    let f = decimal-length 12 first (lit< tt) hf in
+    let f = decimal-length 11 first (lit< tt) hf in
     let o = decimal-length 1 origin (lit< tt) (omega arith) in
     let q = fixed-length 8 6 frequency (lit< tt) hq in
     let r = fixed-length 7 5 (natAbs rate) (lit< tt) (omega arith) in
@@ -45,8 +45,8 @@ recordLine-length number first origin frequency rate hn hf ho hq hr =
 pub refusedLine-length : (number : ℕ) → number < 100 → length (refusedLine number) ≤ 11
 refusedLine-length number h = omega (arith, refused-parts number, decimal-length 2 number (lit< tt) h)
 
--- the 52 bytes are reached
-longest : length (recordLine 65535 999999999999 1 99999999999999 (negsuc 999989999999)) ≡ 52
+-- the 51 bytes are reached, by the last time of a day that a tag can give
+longest : length (recordLine 65535 86399999000 1 99999999999999 (negsuc 999989999999)) ≡ 51
 unfolding recordLine signedFixed fixed places decimal digitsIn
 longest = refl
 

@@ -33,10 +33,10 @@ module _ (c : tie.After-line-length Inv-loop μ-loop) where
   counted : length (linesFrom reel (turn .loop .to-count) (turn .loop .place)) ≡ c .line-length .result + length (linesFrom reel (turn .loop .to-count - 1) (nextPlace reel (turn .loop .place)))
   counted =
       count-step reel (turn .loop .to-count) (turn .loop .place) (omega arith)
-      (c .line-length .ensures ∙ ap (λ (b : List ℕ). length (lineOf b)) (c .before .record-at .ensures))
+      (c .line-length .ensures ∙ ap (λ (b : List ℕ). length (lineOf b)) (c .before .«record» .ensures))
 
-record-at-requires : tie.Need-record-at-requires Inv-loop μ-loop
-record-at-requires c κs = tt
+record-requires : tie.Need-record-requires Inv-loop μ-loop
+record-requires c κs = tt
 
 line-length-requires : tie.Need-line-length-requires Inv-loop μ-loop
 line-length-requires c κs = tt
@@ -46,8 +46,8 @@ add-length c =
     let s = turn c .before .before in
     record { fits = omega (arith, counted c, turn c .loop .inv .0, s .pre, lines-small (reel c) (s .args .steps) 0) }
 
-next-place-requires : tie.Need-next-place-requires Inv-loop μ-loop
-next-place-requires c κs = tt
+next-requires : tie.Need-next-requires Inv-loop μ-loop
+next-requires c κs = tt
 
 sub-to-count : tie.Need-sub-to-count Inv-loop μ-loop
 sub-to-count c = omega arith
@@ -60,7 +60,7 @@ loop-again c =
     let l = c .before in
     let t = turn l .loop in
     let r = reel l in
-    let next = c .next-place .ensures in (
+    let next = c .next .ensures in (
       omega (arith, counted l, t .inv .0, ap (λ (k : ℕ). length (linesFrom r (t .to-count - 1) k)) next),
       ap (placeFrom r (t .to-count - 1)) next ∙ sym (place-step r (t .to-count) (t .place) (omega arith)) ∙ t .inv .1,
     )
@@ -82,10 +82,10 @@ count-lines-spec =
     Inv-loop
     μ-loop
     loop-holds
-    record-at-requires
+    record-requires
     line-length-requires
     add-length
-    next-place-requires
+    next-requires
     sub-to-count
     loop-less
     loop-again

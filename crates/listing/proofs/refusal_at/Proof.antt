@@ -12,8 +12,8 @@ use Rattle.listing.proofs.refusal_at.Tie as tie
 number-of : (s r : Step) (f : Found) → shownStep s ≡ f → s ≡ r → refusalOf (shownStep r) ≡ refusalOf f
 number-of s r f e is = ap refusalOf (ap shownStep (sym is) ∙ e)
 
-step-at-requires : tie.Need-step-at-requires
-step-at-requires c κs = search needs
+peek-requires : tie.Need-peek-requires
+peek-requires c κs = search needs
 
 enum-told : tie.Need-enum-told
 enum-told c = search needs
@@ -25,15 +25,15 @@ enum-known-n : tie.Need-enum-known-n
 enum-known-n c = search needs
 
 returns : tie.Need-returns
-returns c = number-of _ _ _ (c .before .before .step-at .ensures) (c .enum-told .given .1)
+returns c = number-of _ _ _ (c .before .before .peek .ensures) (c .enum-told .given .1)
 
 returns-2 : tie.Need-returns-2
-returns-2 c = number-of _ _ _ (c .before .before .step-at .ensures) (c .enum-told2 .given .1)
+returns-2 c = number-of _ _ _ (c .before .before .peek .ensures) (c .enum-told2 .given .1)
 
 returns-3 : tie.Need-returns-3
-returns-3 c = number-of _ _ _ (c .before .before .before .step-at .ensures) (c .before .n .given .1)
+returns-3 c = number-of _ _ _ (c .before .before .before .peek .ensures) (c .before .n .given .1)
 
 pub refusal-at-spec : {M : Type 1} → statement M
 refusal-at-spec =
     tie.close
-    (tie.spec step-at-requires enum-told enum-told-2 enum-known-n returns returns-2 returns-3)
+    (tie.spec peek-requires enum-told enum-told-2 enum-known-n returns returns-2 returns-3)

@@ -24,20 +24,20 @@ abbrev μ-loop : tie.MeasureT-loop
 loop-holds : tie.Need-loop-holds Inv-loop μ-loop
 loop-holds c = (completes-start _ _ _, refl)
 
-record-at-requires : tie.Need-record-at-requires Inv-loop μ-loop
-record-at-requires c κs = tt
+record-requires : tie.Need-record-requires Inv-loop μ-loop
+record-requires c κs = tt
 
 -- the lines still to come, as a step's line and what follows
-module _ (c : tie.After-record-at Inv-loop μ-loop) where
+module _ (c : tie.After-record Inv-loop μ-loop) where
   abbrev turn : tie.At-loop Inv-loop μ-loop
   turn = c .before .before .before
 
   abbrev reel : List ℕ
   reel = now (turn .before .before .before .args .reel)
 
-  split : lineOf (now (c .record-at .result)) ++ linesFrom reel (turn .loop .to-write - 1) (nextPlace reel (turn .loop .place)) ≡ linesFrom reel (turn .loop .to-write) (turn .loop .place)
+  split : lineOf (now (c .«record» .result)) ++ linesFrom reel (turn .loop .to-write - 1) (nextPlace reel (turn .loop .place)) ≡ linesFrom reel (turn .loop .to-write) (turn .loop .place)
   split =
-      ap (λ (b : List ℕ). lineOf b ++ linesFrom reel (turn .loop .to-write - 1) (nextPlace reel (turn .loop .place))) (c .record-at .ensures)
+      ap (λ (b : List ℕ). lineOf b ++ linesFrom reel (turn .loop .to-write - 1) (nextPlace reel (turn .loop .place))) (c .«record» .ensures)
       ∙ sym (lines-step reel (turn .loop .to-write) (turn .loop .place) (omega arith))
 
 write-line-requires : tie.Need-write-line-requires Inv-loop μ-loop
@@ -47,8 +47,8 @@ write-line-requires c κs =
     let whole : Room (t .loop .out) (t .loop .next) (linesFrom (reel c) (t .loop .to-write) (t .loop .place)) = record { enough = omega (arith, t .loop .inv .0 .place, t .loop .inv .1, s .pre .enough) } in
     room-first (linesFrom (reel c) (t .loop .to-write - 1) (nextPlace (reel c) (t .loop .place))) (split c) whole
 
-next-place-requires : tie.Need-next-place-requires Inv-loop μ-loop
-next-place-requires c κs = tt
+next-requires : tie.Need-next-requires Inv-loop μ-loop
+next-requires c κs = tt
 
 sub-to-write : tie.Need-sub-to-write Inv-loop μ-loop
 sub-to-write c = omega arith
@@ -61,8 +61,8 @@ loop-again c =
     let w = c .before .before .before in
     let l = w .before in
     let t = turn l .loop in
-    let next = ap (linesFrom (reel l) (t .to-write - 1)) (c .next-place .ensures) in (
-      completes-turn (ap (λ (x : List ℕ). lineOf (now (l .record-at .result)) ++ x) next ∙ split l) (t .inv .0) (w .write-line .ensures),
+    let next = ap (linesFrom (reel l) (t .to-write - 1)) (c .next .ensures) in (
+      completes-turn (ap (λ (x : List ℕ). lineOf (now (l .«record» .result)) ++ x) next ∙ split l) (t .inv .0) (w .write-line .ensures),
       omega (arith, t .inv .1, w .write-line .kept .0),
     )
 
@@ -83,9 +83,9 @@ write-lines-spec =
     Inv-loop
     μ-loop
     loop-holds
-    record-at-requires
+    record-requires
     write-line-requires
-    next-place-requires
+    next-requires
     sub-to-write
     loop-less
     loop-again

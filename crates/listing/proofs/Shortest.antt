@@ -1,0 +1,47 @@
+-- An accepted record has at least 780 bytes, by one computed test over the table of rates. Assumes nothing.
+use Prim.Native.Nat.{ℕ, _*_, _≤_}
+use mathlib.Core.Path.{_≡_}
+use mathlib.Core.Bool.{Bool, true, false, cond, _&&_}
+use mathlib.Core.List.{List, [], _∷_}
+use mathlib.Core.Logic.{⊎-elim}
+use native.Mathlib.Omega.{arith}
+use lib.Dec.{T, eqb, leb, leb→le}
+use lib.ListN.{length}
+use Rattle.lists.proofs.Truth.{left, right}
+use Rattle.rates.specs.declared.Rate.{Rate}
+use Rattle.rates.specs.Rates.{rates, lineIn, rateOf, rateHz, wordsA}
+use Rattle.header.specs.Header.{headerOf}
+use Rattle.record.specs.Record.{recordRefusal}
+use Rattle.record.proofs.Accepted.{record-facts}
+use Rattle.listing.specs.Listing.{shortestRecord}
+
+-- the shorter of a line's two lengths, in bytes
+abbrev longLine : Rate → Bool
+longLine l = leb shortestRecord (2 * wordsA l)
+
+abbrev longLines : List Rate → Bool
+longLines [] = true
+longLines (l ∷ ls) = longLine l && longLines ls
+
+-- a rate that has a line in the table has a long one
+long-in : (ls : List Rate) (hz : ℕ) → T (longLines ls) → 1 ≤ rateHz (lineIn ls hz) → shortestRecord ≤ 2 * wordsA (lineIn ls hz)
+unfolding lineIn
+long-in [] hz t h = absurd (let z : ⊥ = omega arith in z)
+long-in (l ∷ ls) hz t h = by-test (eqb (l .0) hz) (long-in ls hz (right (longLine l) (longLines ls) t)) h
+  where
+    by-test : (b : Bool) → (1 ≤ rateHz (lineIn ls hz) → shortestRecord ≤ 2 * wordsA (lineIn ls hz))
+        → 1 ≤ rateHz (cond b l (lineIn ls hz)) → shortestRecord ≤ 2 * wordsA (cond b l (lineIn ls hz))
+    by-test true rest p = leb→le shortestRecord (2 * wordsA l) (left (longLine l) (longLines ls) t)
+    by-test false rest p = rest p
+
+-- the one computed test
+rates-long : T (longLines rates)
+rates-long = tt
+
+pub record-long : (b : List ℕ) → recordRefusal b ≡ 0 → shortestRecord ≤ length b
+unfolding rateOf
+record-long b e =
+    let f = record-facts b e in
+    let l = f .line in
+    let long = long-in rates (headerOf b .«sample_rate_hz») rates-long (l .positive) in
+    ⊎-elim (λ p. omega (arith, p, f .words, l .shorter, l .longer, long)) (λ p. omega (arith, p, f .words, long)) (f .size)
