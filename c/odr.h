@@ -19,7 +19,7 @@ enum {
     ODR_LONGEST_SEGMENT = 90,    /* bytes of the longest monitor segment */
     ODR_CELLS = 20,              /* cells of a row, and of a second */
     ODR_LONGEST_INPUT = 65536,   /* a longer one gets the line refused,24 */
-    ODR_LONGEST_LISTING = 4336,  /* a buffer of this size holds the listing of any input */
+    ODR_LONGEST_LISTING = 4335,  /* a buffer of this size holds the listing of any input */
     ODR_FINISHED = 255           /* what odr_step answers at the end of a reel: no refusal of 01 has this number */
 };
 

@@ -17,7 +17,8 @@ for input in tests/lister/*.in; do
     good=yes
     "$lister" <"$input" >"$got"
     cmp "$got" "$expected" || good=no
-    { head -c 100 "$input"; sleep 0.02; tail -c +101 "$input"; } | "$lister" >"$got"
+    # The lister reads no more than it needs to know that an input is too long; `tail` may then find the pipe closed.
+    { head -c 100 "$input"; sleep 0.02; tail -c +101 "$input" || true; } | "$lister" >"$got"
     cmp "$got" "$expected" || good=no
     if [ $good = yes ]; then
         passed=$((passed + 1))

@@ -162,6 +162,9 @@ def cases():
     yield "length-65536", joined(full) + bytes(6), listing(full, 1)
     yield "length-65537", joined(full) + bytes(7), listing([], 24)
     yield "length-70000", joined(full) + bytes(4470), listing([], 24)
+    # The longest listing that an input can have: 84 records of the shortest length with the longest line each, and a refusal.
+    longest = [Record(65535, origin=1, tag_ms=86_399_999, readback_uhz=10**14 - 1, rate_digits=99999, power=7, sign=0)] * 84
+    yield "longest", joined(longest) + bytes(16), listing(longest, 1)
 
 
 def files():

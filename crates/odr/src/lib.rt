@@ -230,7 +230,11 @@ fn copied(bytes: &[u8]) -> [u8; LONGEST_SEGMENT]
 }
 
 #[no_mangle]
-pub extern "C" fn odr_segment<'a>(this_record: &'a [u8], earlier: &'a [u8], number: u64) -> SegmentOut
+pub extern "C" fn odr_segment<'a>(
+    this_record: &'a [u8],
+    earlier: &'a [u8],
+    number: u64,
+) -> SegmentOut
     ensures { λ r. ⌜ SegmentTold r (segmentAnswer (now («this_record» .entry)) (now (earlier .entry)) number) ⌝ }
 {
     let segment = monitor::segment(this_record, earlier, number);

@@ -26,8 +26,7 @@ second-from-requires c κs = search needs
 returns : tie.Need-returns
 returns c =
     let j = c .before .before .before .before in
-    let a = j .before .before .before .args in
-    (
+    let a = j .before .before .before .args in (
       c .second-from .ensures .0
           ∙ (λ t. accepted (secondShown (a .o) (c .before .block .ensures t)))
           ∙ asked (a .o) (a .second) (a .rows .now) (a .seconds .now) (sym (j .judge .ensures) ∙ c .before .before .before .if1 .taken),
@@ -40,8 +39,7 @@ no-second-requires c κs = search needs
 returns-2 : tie.Need-returns-2
 returns-2 c =
     let j = c .before .before in
-    let a = j .before .before .before .args in
-    (
+    let a = j .before .before .before .args in (
       c .no-second .ensures .0 ∙ not-asked (a .o) (a .second) (a .rows .now) (a .seconds .now) (j .judge .result) (j .judge .ensures) (c .before .if1 .left),
       c .no-second .ensures .1,
     )

@@ -15,8 +15,7 @@ is-some n above e = let z : ⊥ = omega (arith, above, e) in z
 
 returns : tie.Need-returns
 returns c =
-    let a = c .args in
-    (
+    let a = c .args in (
       ap (λ (t : Bool). record { number = a .refusal; value = noSecond; given = t }) (ne-eqb (a .refusal) 0 (is-some (a .refusal) (c .pre))),
       search needs,
     )

@@ -37,17 +37,16 @@ unfolding secondShown
 returns c =
     let totals = c .before .before in
     let a = totals .before .before .args in
-    let channels = totals .totals-from .ensures .0 ∙ (λ t. tab (totalFrom (totals .before .sample-count .ensures .0 t) (a .t2)) 1 4) in
-    (
+    let channels = totals .totals-from .ensures .0 ∙ (λ t. tab (totalFrom (totals .before .sample-count .ensures .0 t) (a .t2)) 1 4) in (
       λ t. accepted (
-      record {
-        records = getD (a .t2) 0 0;
-        origins = getD (a .t2) 1 0;
-        errors = getD (a .t2) 2 0;
-        channels = channels t;
-        kept = (c .is-kept .ensures ∙ (λ u. keptFrom (c .before .full-count .ensures u) (a .t2))) t;
-      }
-      ),
+          record {
+            records = getD (a .t2) 0 0;
+            origins = getD (a .t2) 1 0;
+            errors = getD (a .t2) 2 0;
+            channels = channels t;
+            kept = (c .is-kept .ensures ∙ (λ u. keptFrom (c .before .full-count .ensures u) (a .t2))) t;
+          }
+          ),
       totals .totals-from .ensures .1,
     )
 
