@@ -1,6 +1,6 @@
-/* Calls every function of c/odr.h from C and prints its answers, for tests/boundary.sh: what tests/boundary.out has was worked out by
- * hand from 01, as the comments here say. The record is that of 01, "The lister": 780 bytes, 200 samples a second, 100 samples a
- * channel, N = 240, so its monitor words start at byte 480; year 86, day 24, noon. */
+/* Calls every function of c/odr.h from C and prints its answers, for tests/boundary.sh. What tests/boundary.out has was worked out
+ * by hand from 01, as the comments here say. The record is that of 01, "The lister": 780 bytes, 200 samples a second, 100 samples
+ * a channel, N = 240, so its monitor words start at byte 480; year 86, day 24, noon. */
 #include "odr.h"
 
 #include <inttypes.h>
@@ -18,8 +18,8 @@ _Static_assert(sizeof((odr_second_answer){0}.channels) == 4 * sizeof(odr_total),
 _Static_assert(sizeof((odr_means_answer){0}.channels) == 4 * sizeof(odr_means), "four channels");
 _Static_assert(ODR_FINISHED > 24 && ODR_FINISHED <= UINT8_MAX, "finished is no refusal and fits an answer");
 
-/* The longest line: a number of 5 digits, microseconds of 11, an origin of 1, 8 digits of hertz with a point and 6 places, a minus and 7
- * digits of hertz a second with a point and 5 places, four commas and a line feed. */
+/* The longest line: a number of 5 digits, microseconds of 11, an origin of 1, 8 digits of hertz with a point and 6 places, a minus
+ * and 7 digits of hertz a second with a point and 5 places, four commas and a line feed. */
 #define LONGEST_LINE "65535,86399999000,1,99999999.999999,-9999900.00000\n"
 enum { HEADER_LINE = 41, LINE = 5 + 11 + 1 + 15 + 14 + 4 + 1, RECORDS = ODR_LONGEST_INPUT / LENGTH };
 _Static_assert(sizeof LONGEST_LINE - 1 == LINE && LINE == 51 && RECORDS == 84, "the longest line, the most records");
@@ -115,8 +115,9 @@ static void segment(const char *name, const uint8_t *this_record, const uint8_t 
            answer.bytes[last], others);
 }
 
-/* Segment 7, status bit 1, is monitor words 6 to 50: bytes 10 to 99 after byte 480, and is new in the earlier record alone. Segment 2,
- * bit 3, is words 64 to 78: bytes 126 to 155, and is new in both. Segment 5, bit 2, is new in neither; there is no segment 1. */
+/* Segment 7, status bit 1, is monitor words 6 to 50: bytes 10 to 99 from byte 480 on, and is new in the earlier record alone.
+ * Segment 2, bit 3, is words 64 to 78: bytes 126 to 155, and is new in both. Segment 5, bit 2, is new in neither; there is no
+ * segment 1. */
 static void segments(void) {
     uint8_t this_record[LENGTH], earlier[LENGTH];
     memcpy(this_record, record, LENGTH);
@@ -147,8 +148,8 @@ static void walk(const char *name, const uint8_t *reel, size_t reel_len) {
     printf(" then %u %zu %zu\n", step.answer, step.start, step.end);
 }
 
-/* Two records of 780 bytes, numbers 1 and 2. Cut by a byte, the second is longer than what is left, 2; with 79 bytes more, those are
- * 1; with tape number 0 in the second, 7. */
+/* Two records of 780 bytes, numbers 1 and 2. Cut by a byte, the second is longer than what is left, 2; with 79 bytes more, those
+ * are 1; with tape number 0 in the second, 7. */
 static void reels(void) {
     uint8_t reel[2 * LENGTH + 79] = {0};
     memcpy(reel, record, LENGTH);
@@ -221,9 +222,9 @@ static void test(void) {
     printf("test %u %s\n", answer.refusal, answer.consistent ? "yes" : "no");
 }
 
-/* 60 row cells and 40 second cells become 0, two stay. A second at 200 samples a second is full with two records, so the third is 18;
- * 4 is above the highest number. Two records have twice the totals of one over 200 samples: -2 / 200, 50 / 200. The second after
- * has none, the one after that is outside. */
+/* 60 row cells and 40 second cells become 0, two stay. A second at 200 samples a second is full with two records, so the third is
+ * 18; 4 is above the highest number. Two records have twice the totals of one over 200 samples: -2 / 200, 50 / 200. The second
+ * after has none, the one after that is outside. */
 static void fill(void) {
     memset(rows, 0xEE, sizeof rows);
     memset(seconds, 0xEE, sizeof seconds);
@@ -286,9 +287,9 @@ static void texts(void) {
     print_text("list of 65,537 bytes", odr_list(too_long, sizeof too_long, text, sizeof text), text);
 }
 
-/* 84 records with the longest line, and the 16 bytes that 65,536 have left: 41 + 84 * 51 + 10 = 4,335 bytes, one less than a listing
- * could have by its parts, since what is left is too short for a refusal of two digits. Number 65,535; tag 86,399,999, 5265BFF hex;
- * fourteen nines; 99,999 times 10^7 units, bits 13 to 16 of word 27 being 111 and 0, minus. */
+/* 84 records with the longest line, and the 16 bytes that 65,536 have left, which are 1: 41 + 84 * 51 + 10 = 4,335 bytes. That is
+ * one less than the sum of the longest parts, since a refusal of two digits takes 80 bytes or more. Number 65,535; tag 86,399,999,
+ * 5265BFF hex; fourteen nines; 99,999 times 10^7 units, bits 13 to 16 of word 27 being 111 and 0, minus. */
 static void longest(void) {
     static const unsigned words[][2] = {{2, 0xFFFF},  {7, 0x0526},  {8, 0x5BFF},  {14, 0x0099}, {15, 0x9999},
                                         {16, 0x9999}, {17, 0x9999}, {26, 0x0099}, {27, 0x999E}};

@@ -364,7 +364,7 @@ impl History {
         run.compare_as(call, &outcome, actual, said, &[&cells, parts].concat());
     }
 
-    /// This history with an opening that has another number, fewer seconds or rows, or is 0 throughout, or with buffers that are too
+    /// This history with an opening that has another number, fewer seconds or rows, or only zeros, or with buffers that are too
     /// short.
     fn forged(&self, rng: &mut Rng) -> History {
         let mut forged = self.clone();
