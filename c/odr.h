@@ -94,7 +94,7 @@ odr_segment_answer odr_segment(const uint8_t *this_record, size_t this_len, cons
 /* ---- Reels: records back to back. */
 
 /* What stands at a place: a record, from `start` up to `end`, which is also the next place; or ODR_FINISHED at the end of the reel and
- * past it; or 1 to 11. So this loop ends on every reel:
+ * past it; or 1 to 11. Where no record stands, `start` and `end` are 0. So this loop ends on every reel:
  *
  *     odr_step_answer step;
  *     for (size_t place = 0; (step = odr_step(reel, reel_len, place)).answer == 0; place = step.end)

@@ -1,69 +1,79 @@
-/* Calls every function of c/odr.h from C and prints its answers, for tests/boundary.sh. The record is that of 01, "The lister";
- * samples and phases are written into it by the library, and a monitor segment by hand into a copy. */
+/* Calls every function of c/odr.h from C and prints its answers, for tests/boundary.sh. What tests/boundary.out has was worked out
+ * by hand from 01, as the comments here say. The record is that of 01, "The lister": 780 bytes, 200 samples a second, 100 samples
+ * a channel, N = 240, so its monitor words start at byte 480; year 86, day 24, noon. */
 #include "odr.h"
 
 #include <inttypes.h>
 #include <stdio.h>
 #include <string.h>
 
-enum { LENGTH = 780, SAMPLES = 100, NUMBERS = 3, SECONDS = 2, NOON = 43200 };
+enum { LENGTH = 780, SAMPLES = 100, NUMBERS = 3, SECONDS = 2, NOON = 43200, MONITOR = 480 };
+
+_Static_assert(sizeof(odr_header) == 8 * ODR_HEADER_VALUES, "a header is its values");
+_Static_assert(sizeof(odr_opening) == 9 * 8, "an opening is nine numbers");
+_Static_assert(sizeof((odr_segment_answer){0}.bytes) == ODR_LONGEST_SEGMENT, "a segment's bytes");
+_Static_assert(ODR_LONGEST_SEGMENT == 2 * (50 - 6 + 1), "segment 7 is the longest: monitor words 6 to 50");
+_Static_assert(sizeof((odr_totals_answer){0}.channels) == 4 * sizeof(odr_total), "four channels");
+_Static_assert(sizeof((odr_second_answer){0}.channels) == 4 * sizeof(odr_total), "four channels");
+_Static_assert(sizeof((odr_means_answer){0}.channels) == 4 * sizeof(odr_means), "four channels");
+_Static_assert(ODR_FINISHED > 24 && ODR_FINISHED <= UINT8_MAX, "finished is no refusal and fits an answer");
+
+/* The longest line: a number of 5 digits, microseconds of 11, an origin of 1, 8 digits of hertz with a point and 6 places, a minus
+ * and 7 digits of hertz a second with a point and 5 places, four commas and a line feed. */
+#define LONGEST_LINE "65535,86399999000,1,99999999.999999,-9999900.00000\n"
+enum { HEADER_LINE = 41, LINE = 5 + 11 + 1 + 15 + 14 + 4 + 1, RECORDS = ODR_LONGEST_INPUT / LENGTH };
+_Static_assert(sizeof LONGEST_LINE - 1 == LINE && LINE == 51 && RECORDS == 84, "the longest line, the most records");
+_Static_assert(ODR_LONGEST_LISTING == HEADER_LINE + RECORDS * LINE + sizeof "refused,1\n" - 1, "the longest listing");
 
 static uint8_t record[LENGTH];
 
-static void set_word(int word, unsigned value) {
-    record[2 * word - 2] = (uint8_t)(value >> 8);
-    record[2 * word - 1] = (uint8_t)value;
+static void set_word(uint8_t *bytes, int word, unsigned value) {
+    bytes[2 * word - 2] = (uint8_t)(value >> 8);
+    bytes[2 * word - 1] = (uint8_t)value;
 }
 
-static void make_record(void) {
-    static const unsigned words[][2] = {{1, 0x8101}, {2, 0x0001},  {3, 0x0186},  {6, 0xAC18},  {7, 0x0293}, {8, 0x2E00},
-                                        {16, 0x4200}, {26, 0x0012}, {27, 0x3452}, {37, 0x00C8}, {38, 0xA55A}};
-    for (size_t i = 0; i < sizeof words / sizeof words[0]; i++) {
-        set_word((int)words[i][0], words[i][1]);
-    }
-}
-
-static void print_unsigned(const char *name, const uint64_t *values, size_t count) {
-    printf("%s", name);
+static void set_words(uint8_t *bytes, const unsigned (*words)[2], size_t count) {
     for (size_t i = 0; i < count; i++) {
-        printf(" %" PRIu64, values[i]);
+        set_word(bytes, (int)words[i][0], words[i][1]);
     }
-    printf("\n");
 }
 
-static void print_floats(const char *name, const double *values, size_t count) {
-    printf("%s", name);
-    for (size_t i = 0; i < count; i++) {
-        printf(" %.17g", values[i]);
-    }
-    printf("\n");
-}
-
-static void print_totals(const int64_t *sums, const uint64_t *squares, const int8_t *least, const int8_t *greatest) {
+static void print_channels(const odr_total *channels) {
     for (int c = 0; c < 4; c++) {
-        printf("  channel %d: %" PRId64 " %" PRIu64 " %d %d\n", c + 1, sums[c], squares[c], least[c], greatest[c]);
+        printf("  channel %d: %" PRId64 " %" PRIu64 " %d %d\n", c + 1, channels[c].sum, channels[c].squares, channels[c].least,
+               channels[c].greatest);
     }
 }
 
+/* Phase counts 384 and 64 go into the header: 1.5 and 0.25 cycles. Clock origin 2 has no place in one bit, 22; a record tag of
+ * 86,400,000 is 9 and not 22. The rate is 12,345 times 10, negative. */
 static void headers(void) {
-    uint64_t values[ODR_HEADER_VALUES];
+    odr_header header;
     printf("accept %u, of 79 bytes %u\n", odr_accept(record, LENGTH), odr_accept(record, 79));
-    printf("read_header %u\n", odr_read_header(record, LENGTH, values, ODR_HEADER_VALUES));
-    print_unsigned(" ", values, ODR_HEADER_VALUES);
-    values[34] = 384;
-    values[35] = 64;
-    printf("write_header %u", odr_write_header(record, LENGTH, values, ODR_HEADER_VALUES));
-    values[0] = 2;
-    printf(", with clock origin 2 %u", odr_write_header(record, LENGTH, values, ODR_HEADER_VALUES));
-    printf(", of two values %u\n", odr_write_header(record, LENGTH, values, 2));
-    int64_t units = 0;
-    uint8_t answer = odr_frequency_rate(record, LENGTH, &units);
-    printf("frequency_rate %u %" PRId64 "\n", answer, units);
-    double cycles[2] = {0, 0};
-    printf("phases %u", odr_phases(record, LENGTH, cycles, 2));
-    print_floats("", cycles, 2);
+    printf("read_header %u\n ", odr_read_header(record, LENGTH, &header));
+    for (int i = 0; i < ODR_HEADER_VALUES; i++) {
+        printf(" %" PRIu64, header.value[i]);
+    }
+    odr_header kept = header;
+    printf("\nread_header of 79 bytes %u", odr_read_header(record, 79, &kept));
+    printf(", as it was: %s\n", memcmp(&kept, &header, sizeof kept) == 0 ? "yes" : "no");
+    header.value[34] = 384;
+    header.value[35] = 64;
+    printf("write_header %u", odr_write_header(record, LENGTH, &header));
+    header.value[0] = 2;
+    printf(", with clock origin 2 %u", odr_write_header(record, LENGTH, &header));
+    header.value[14] = 86400000;
+    printf(", and tag 86,400,000 %u\n", odr_write_header(record, LENGTH, &header));
+    const size_t lengths[] = {LENGTH, 79};
+    for (int i = 0; i < 2; i++) {
+        odr_rate_answer rate = odr_frequency_rate(record, lengths[i]);
+        odr_phases_answer phases = odr_phases(record, lengths[i]);
+        printf("frequency_rate %u %" PRId64 ", phases %u %g %g\n", rate.refusal, rate.units, phases.refusal, phases.first,
+               phases.second);
+    }
 }
 
+/* Channel 1 is 3, -4 and 98 times 0: sum -1, squares 9 + 16; 2 is 1 throughout; 3 is -128: 100 * 16,384; 4 is 127: 100 * 16,129. */
 static void samples(void) {
     int8_t one[SAMPLES] = {3, -4}, two[SAMPLES], three[SAMPLES], four[SAMPLES], out[4][SAMPLES + 1];
     memset(two, 1, SAMPLES);
@@ -77,131 +87,242 @@ static void samples(void) {
     for (int c = 0; c < 4; c++) {
         printf("  channel %d: %d %d %d %d\n", c + 1, out[c][0], out[c][1], out[c][SAMPLES - 1], out[c][SAMPLES]);
     }
-    uint64_t first = 0, last = 0, none = 5;
-    uint8_t answers[3] = {odr_sample_time(record, LENGTH, 0, &first), odr_sample_time(record, LENGTH, 99, &last),
-                          odr_sample_time(record, LENGTH, 100, &none)};
-    printf("sample_time %u %" PRIu64 ", %u %" PRIu64 ", %u %" PRIu64 "\n", answers[0], first, answers[1], last, answers[2], none);
-    int64_t sums[4];
-    uint64_t squares[4];
-    int8_t least[4], greatest[4];
-    odr_totals(record + 80, 4 * SAMPLES, sums, 4, squares, 4, least, 4, greatest, 4);
-    printf("totals\n");
-    print_totals(sums, squares, least, greatest);
-    double means[4];
-    odr_means(-1, 25, 2, means, 2);
-    odr_means(-1, 25, 0, means + 2, 2);
-    print_floats("means", means, 4);
+    odr_totals_answer totals = odr_totals(record, LENGTH);
+    printf("totals %u\n", totals.refusal);
+    print_channels(totals.channels);
+    totals = odr_totals(record, LENGTH - 1);
+    printf("totals of 779 bytes %u\n", totals.refusal);
+    print_channels(totals.channels);
 }
 
+/* Noon is 43,200,000,000 microseconds, and samples are 5,000 apart: the last is 99 * 5,000 later. */
+static void times(void) {
+    const uint64_t asked[] = {0, 99, 100, UINT64_MAX};
+    for (size_t i = 0; i < sizeof asked / sizeof asked[0]; i++) {
+        odr_time_answer time = odr_sample_time(record, LENGTH, asked[i]);
+        printf("sample_time %u %" PRIu64 "\n", time.refusal, time.microseconds);
+    }
+}
+
+static void segment(const char *name, const uint8_t *this_record, const uint8_t *earlier, size_t earlier_len, uint64_t number) {
+    odr_segment_answer answer = odr_segment(this_record, LENGTH, earlier, earlier_len, number);
+    int others = 0;
+    for (size_t i = 0; i < ODR_LONGEST_SEGMENT; i++) {
+        others += answer.bytes[i] != 0;
+    }
+    size_t last = answer.length == 0 ? 0 : answer.length - 1;
+    printf("segment %s %u, %zu bytes: %d to %d, %d not 0\n", name, answer.refusal, answer.length, answer.bytes[0],
+           answer.bytes[last], others);
+}
+
+/* Segment 7, status bit 1, is monitor words 6 to 50: bytes 10 to 99 from byte 480 on, and is new in the earlier record alone.
+ * Segment 2, bit 3, is words 64 to 78: bytes 126 to 155, and is new in both. Segment 5, bit 2, is new in neither; there is no
+ * segment 1. */
 static void segments(void) {
-    uint8_t earlier[LENGTH], bytes[100];
+    uint8_t this_record[LENGTH], earlier[LENGTH];
+    memcpy(this_record, record, LENGTH);
     memcpy(earlier, record, LENGTH);
-    earlier[480] = 0x80;
-    earlier[490] = 11;
-    earlier[579] = 22;
-    size_t length = 0;
-    memset(bytes, 99, sizeof bytes);
-    uint8_t answer = odr_segment(record, LENGTH, earlier, LENGTH, 7, bytes, sizeof bytes, &length);
-    printf("segment %u, %zu bytes: %d %d %d %d", answer, length, bytes[0], bytes[1], bytes[89], bytes[90]);
-    printf(", number 5 %u", odr_segment(record, LENGTH, earlier, LENGTH, 5, bytes, sizeof bytes, &length));
-    printf(", number 1 %u\n", odr_segment(record, LENGTH, earlier, LENGTH, 1, bytes, sizeof bytes, &length));
-    size_t after = 0, end = 0, none = 5;
-    uint8_t answers[3] = {odr_step(record, LENGTH, 0, &after), odr_step(record, LENGTH, LENGTH, &end),
-                          odr_step(record, LENGTH, 1, &none)};
-    printf("step %u %zu, %u %zu, %u %zu\n", answers[0], after, answers[1], end, answers[2], none);
-    size_t first = 0;
-    answer = odr_first(record, LENGTH, &first);
-    printf("first %u %zu", answer, first);
-    length = odr_record(record, LENGTH, 0, bytes, 3);
-    printf(", record of %zu bytes: %02X %02X %02X %d", length, bytes[0], bytes[1], bytes[2], bytes[3]);
-    printf(", at the end %zu\n", odr_record(record, LENGTH, LENGTH, bytes, 3));
+    this_record[MONITOR] = 0x20;
+    this_record[MONITOR + 126] = 33;
+    this_record[MONITOR + 155] = 44;
+    earlier[MONITOR] = 0xA0;
+    earlier[MONITOR + 10] = 11;
+    earlier[MONITOR + 99] = 22;
+    earlier[MONITOR + 126] = 55;
+    segment("7", this_record, earlier, LENGTH, 7);
+    segment("2", this_record, earlier, LENGTH, 2);
+    segment("5", this_record, earlier, LENGTH, 5);
+    segment("1", this_record, earlier, LENGTH, 1);
+    segment("1 after 79 bytes", this_record, earlier, 79, 1);
 }
 
-static uint64_t opening[ODR_OPENING_VALUES];
-static uint32_t rows[ODR_CELLS * NUMBERS], seconds[ODR_CELLS * SECONDS];
-static const size_t row_cells = ODR_CELLS * NUMBERS, second_cells = ODR_CELLS * SECONDS;
+/* The loop of c/odr.h: it ends on every reel. */
+static void walk(const char *name, const uint8_t *reel, size_t reel_len) {
+    odr_step_answer step;
+    printf("reel %s:", name);
+    for (size_t place = 0; (step = odr_step(reel, reel_len, place)).answer == 0; place = step.end) {
+        odr_header header = {{0}};
+        odr_read_header(reel + step.start, step.end - step.start, &header);
+        printf(" %zu to %zu is number %" PRIu64 ",", step.start, step.end, header.value[6]);
+    }
+    printf(" then %u %zu %zu\n", step.answer, step.start, step.end);
+}
+
+/* Two records of 780 bytes, numbers 1 and 2. Cut by a byte, the second is longer than what is left, 2; with 79 bytes more, those
+ * are 1; with tape number 0 in the second, 7. */
+static void reels(void) {
+    uint8_t reel[2 * LENGTH + 79] = {0};
+    memcpy(reel, record, LENGTH);
+    memcpy(reel + LENGTH, record, LENGTH);
+    set_word(reel + LENGTH, 2, 2);
+    walk("of two records", reel, 2 * LENGTH);
+    walk("cut", reel, 2 * LENGTH - 1);
+    walk("with 79 bytes left", reel, 2 * LENGTH + 79);
+    reel[LENGTH + 1] = 0;
+    walk("with tape number 0", reel, 2 * LENGTH);
+    walk("of nothing", reel, 0);
+    printf("step past the end %u, inside a record %u\n", odr_step(reel, LENGTH, SIZE_MAX).answer, odr_step(reel, LENGTH, 1).answer);
+}
+
+/* One cell more than the index has in each buffer: no call may touch it. */
+enum { ROW_CELLS = ODR_CELLS * NUMBERS + 1, SECOND_CELLS = ODR_CELLS * SECONDS + 1 };
+static odr_opening opening;
+static uint32_t rows[ROW_CELLS], seconds[SECOND_CELLS];
+
+static size_t count_cells(uint32_t value) {
+    size_t count = 0;
+    for (size_t i = 0; i < ROW_CELLS; i++) {
+        count += rows[i] == value;
+    }
+    for (size_t i = 0; i < SECOND_CELLS; i++) {
+        count += seconds[i] == value;
+    }
+    return count;
+}
+
+static void open(const char *name, size_t pattern_len, uint64_t second_count, size_t row_cells) {
+    odr_open_answer answer = odr_open(record, pattern_len, NOON, second_count, NUMBERS, rows, row_cells, seconds, SECOND_CELLS);
+    const odr_opening *o = &answer.opening;
+    const uint64_t values[] = {o->first_second, o->second_count, o->highest_number, o->sample_rate_hz, o->tape_number,
+                               o->year,         o->day,          o->spacecraft,     o->spc};
+    printf("open %s %u:", name, answer.refusal);
+    for (size_t i = 0; i < sizeof values / sizeof values[0]; i++) {
+        printf(" %" PRIu64, values[i]);
+    }
+    printf("; %zu cells are 0, %zu as they were\n", count_cells(0), count_cells(0xEEEEEEEE));
+    opening = answer.opening;
+}
 
 static uint8_t put(unsigned number) {
-    set_word(2, number);
-    uint8_t answer = odr_put(opening, ODR_OPENING_VALUES, record, LENGTH, rows, row_cells, seconds, second_cells);
-    set_word(2, 1);
+    set_word(record, 2, number);
+    uint8_t answer = odr_put(opening, record, LENGTH, rows, ROW_CELLS, seconds, SECOND_CELLS);
+    set_word(record, 2, 1);
     return answer;
 }
 
 static uint8_t take_out(uint64_t number) {
-    return odr_take_out(opening, ODR_OPENING_VALUES, number, rows, row_cells, seconds, second_cells);
+    return odr_take_out(opening, number, rows, ROW_CELLS, seconds, SECOND_CELLS);
 }
 
 static void ask(uint64_t second) {
-    uint64_t counts[4] = {9, 9, 9, 9}, squares[4] = {9, 9, 9, 9};
-    int64_t sums[4] = {9, 9, 9, 9};
-    int8_t least[4] = {9, 9, 9, 9}, greatest[4] = {9, 9, 9, 9};
-    double means[8] = {9, 9, 9, 9, 9, 9, 9, 9};
-    printf("ask %u", odr_ask(opening, ODR_OPENING_VALUES, second, rows, row_cells, seconds, second_cells, counts, 4, sums, 4,
-                             squares, 4, least, 4, greatest, 4));
-    print_unsigned("", counts, 4);
-    print_totals(sums, squares, least, greatest);
-    printf("second_means %u", odr_second_means(opening, ODR_OPENING_VALUES, second, rows, row_cells, seconds, second_cells,
-                                               means, 8));
-    print_floats("", means, 8);
+    odr_second_answer answer = odr_ask(opening, second, rows, ROW_CELLS, seconds, SECOND_CELLS);
+    printf("ask %" PRIu64 ": %u, %u records, %u origins, %u errors, %s\n", second, answer.refusal, answer.records, answer.origins,
+           answer.errors, answer.kept ? "kept" : "not kept");
+    print_channels(answer.channels);
+    odr_means_answer means = odr_second_means(opening, second, rows, ROW_CELLS, seconds, SECOND_CELLS);
+    printf("second_means %u:", means.refusal);
+    for (int c = 0; c < 4; c++) {
+        printf(" %g %g", means.channels[c].mean, means.channels[c].mean_square);
+    }
+    printf("\n");
 }
 
 static void test(void) {
-    bool consistent = false;
-    uint8_t answer = odr_test(opening, ODR_OPENING_VALUES, rows, row_cells, seconds, second_cells, &consistent);
-    printf("test %u %s\n", answer, consistent ? "yes" : "no");
+    odr_test_answer answer = odr_test(opening, rows, ROW_CELLS, seconds, SECOND_CELLS);
+    printf("test %u %s\n", answer.refusal, answer.consistent ? "yes" : "no");
 }
 
-static void book(void) {
+/* 60 row cells and 40 second cells become 0, two stay. A second at 200 samples a second is full with two records, so the third is
+ * 18; 4 is above the highest number. Two records have twice the totals of one over 200 samples: -2 / 200, 50 / 200. The second
+ * after has none, the one after that is outside. */
+static void fill(void) {
     memset(rows, 0xEE, sizeof rows);
     memset(seconds, 0xEE, sizeof seconds);
-    printf("open %u", odr_open(record, LENGTH, NOON, SECONDS, NUMBERS, rows, row_cells, seconds, second_cells, opening,
-                               ODR_OPENING_VALUES));
-    print_unsigned("", opening, ODR_OPENING_VALUES);
-    printf("open of no seconds %u, of 59 row cells %u\n",
-           odr_open(record, LENGTH, NOON, 0, NUMBERS, rows, row_cells, seconds, second_cells, opening, ODR_OPENING_VALUES),
-           odr_open(record, LENGTH, NOON, SECONDS, NUMBERS, rows, 59, seconds, second_cells, opening, ODR_OPENING_VALUES));
+    open("of 79 bytes", 79, SECONDS, ROW_CELLS);
+    open("of no seconds", LENGTH, 0, ROW_CELLS);
+    open("of 59 row cells", LENGTH, SECONDS, 59);
+    open("whole", LENGTH, SECONDS, ROW_CELLS);
+    printf("put");
     for (unsigned number = 1; number <= 4; number++) {
-        printf("put %u %u\n", number, put(number));
+        printf(" %u: %u,", number, put(number));
     }
-    printf("put 1 %u\n", put(1));
+    printf(" 1 again: %u\n", put(1));
     ask(NOON);
     ask(NOON + 1);
     ask(NOON + 2);
-    printf("take_out %u", take_out(2));
-    printf(", again %u", take_out(2));
-    printf(", of number 0 %u\n", take_out(0));
-    printf("put 3 %u\n", put(3));
+}
+
+/* Number 2 goes, and there is room for 3, a second later: 1000 ms is 3E8 hex, and 2E00 + 3E8 = 31E8. A copy error, bit 3 of word 1,
+ * and no clock origin, bit 1, in the record that replaces it: 2101. */
+static void change(void) {
+    printf("take_out 2: %u", take_out(2));
+    printf(", again: %u", take_out(2));
+    printf(", 0: %u\n", take_out(0));
+    set_word(record, 8, 0x31E8);
+    printf("put 3: %u", put(3));
+    set_word(record, 1, 0x2101);
+    printf(", again: %u\n", put(3));
+    set_word(record, 1, 0x8101);
+    set_word(record, 8, 0x2E00);
+    ask(NOON);
+    ask(NOON + 1);
     test();
     seconds[0]++;
     test();
+    seconds[0]--;
 }
 
+/* An opening that is 0 throughout, as a refused odr_open returns it, is 13 in every call. */
+static void forge(void) {
+    memset(&opening, 0, sizeof opening);
+    printf("no opening: put %u, take_out %u\n", put(1), take_out(1));
+    ask(NOON);
+    test();
+}
+
+static void print_text(const char *name, odr_text_answer answer, const uint8_t *text) {
+    printf("%s %u, %zu bytes\n%.*s", name, answer.refusal, answer.length, (int)answer.length, (const char *)text);
+}
+
+/* The line has 1, 11, 1, 9 and 8 characters, four commas and a line feed: 35. With the header line's 41 that is 76. */
 static void texts(void) {
+    static const uint8_t too_long[ODR_LONGEST_INPUT + 1];
     uint8_t text[100];
-    size_t length = 5, next = 5;
-    printf("record_line %u", odr_record_line(record, LENGTH, text, 34, &length));
-    printf(" %zu", length);
-    printf(", %u", odr_record_line(record, LENGTH, text, 35, &length));
-    printf(" %zu\n%.*s", length, (int)length, (char *)text);
-    printf("list %u", odr_list(record, LENGTH, text, sizeof text, &length));
-    printf(" %zu\n%.*s", length, (int)length, (char *)text);
-    printf("header_line %u", odr_header_line(text, 41, 1, &next));
-    printf(" %zu", next);
-    printf(", %u", odr_header_line(text, sizeof text, 0, &next));
-    printf(" %zu\n", next);
-    printf("columns_line %u", odr_columns_line(text, sizeof text, next, 7, 0, 1, 1, -1, &next));
-    printf(" %zu\n", next);
-    printf("refused_line %u", odr_refused_line(text, sizeof text, next, 24, &next));
-    printf(" %zu\n%.*s", next, (int)next, (char *)text);
+    print_text("record_line", odr_record_line(record, LENGTH, text, 34), text);
+    print_text("record_line", odr_record_line(record, LENGTH, text, 35), text);
+    print_text("record_line of 79 bytes", odr_record_line(record, 79, text, sizeof text), text);
+    print_text("list", odr_list(record, LENGTH, text, 75), text);
+    print_text("list", odr_list(record, LENGTH, text, 76), text);
+    print_text("list of nothing", odr_list(record, 0, text, sizeof text), text);
+    print_text("list of 65,537 bytes", odr_list(too_long, sizeof too_long, text, sizeof text), text);
+}
+
+/* 84 records with the longest line, and the 16 bytes that 65,536 have left, which are 1: 41 + 84 * 51 + 10 = 4,335 bytes. A refusal of
+ * two digits takes 80 bytes or more, so that 83 records at most stand before it. Number 65,535; tag 86,399,999,
+ * 5265BFF hex; fourteen nines; 99,999 times 10^7 units, bits 13 to 16 of word 27 being 111 and 0, minus. */
+static void longest(void) {
+    static const unsigned words[][2] = {{2, 0xFFFF},  {7, 0x0526},  {8, 0x5BFF},  {14, 0x0099}, {15, 0x9999},
+                                        {16, 0x9999}, {17, 0x9999}, {26, 0x0099}, {27, 0x999E}};
+    static uint8_t input[ODR_LONGEST_INPUT], text[ODR_LONGEST_LISTING + 1], expected[ODR_LONGEST_LISTING + 1];
+    set_words(record, words, sizeof words / sizeof words[0]);
+    char *end = (char *)expected + sprintf((char *)expected, "record,first_us,origin,poca_hz,rate_hz_s\n");
+    for (size_t i = 0; i < RECORDS; i++) {
+        memcpy(input + i * LENGTH, record, LENGTH);
+        end += sprintf(end, LONGEST_LINE);
+    }
+    end += sprintf(end, "refused,1\n");
+    size_t length = (size_t)(end - (char *)expected);
+    memset(text, '#', sizeof text);
+    odr_text_answer answer = odr_list(input, sizeof input, text, length - 1);
+    printf("longest list, one byte short: %u %zu, first byte %c\n", answer.refusal, answer.length, text[0]);
+    answer = odr_list(input, sizeof input, text, ODR_LONGEST_LISTING);
+    printf("longest list %u, %zu bytes, %s, then %c\n", answer.refusal, answer.length,
+           memcmp(text, expected, length) == 0 ? "as expected" : "not as expected", text[length]);
 }
 
 int main(void) {
-    make_record();
+    static const unsigned words[][2] = {{1, 0x8101},  {2, 0x0001},  {3, 0x0186},  {6, 0xAC18},  {7, 0x0293}, {8, 0x2E00},
+                                        {16, 0x4200}, {26, 0x0012}, {27, 0x3452}, {37, 0x00C8}, {38, 0xA55A}};
+    set_words(record, words, sizeof words / sizeof words[0]);
     headers();
     samples();
+    times();
     segments();
-    book();
+    reels();
+    fill();
+    change();
+    forge();
     texts();
+    longest();
     return 0;
 }

@@ -2,7 +2,7 @@
 
 use crate::plain::header::{self, read_header};
 use crate::plain::{samples, totals, write};
-use compare::odr;
+use compare::odr::{self, HEADER_VALUES};
 use compare::records::any_bytes;
 use second::gen::Rng;
 
@@ -24,40 +24,23 @@ pub fn number<T>(answer: &Result<T, u8>) -> u8 {
     answer.as_ref().map_or_else(|&number| number, |_| 0)
 }
 
-/// The library's totals.
-#[derive(Default)]
-pub struct Totals {
-    pub sums: [i64; 4],
-    pub squares: [u64; 4],
-    pub least: [i8; 4],
-    pub greatest: [i8; 4],
-}
-
-impl Totals {
-    pub fn take(&mut self, stretch: &[u8]) {
-        odr::totals(stretch, &mut self.sums, &mut self.squares, &mut self.least, &mut self.greatest);
-    }
-}
-
-fn same_totals(stretch: &[u8]) {
-    let mut library = Totals::default();
-    library.take(stretch);
-    let rust = totals::totals(stretch);
-    assert_eq!(library.sums, rust.map(|total| total.sum));
-    assert_eq!(library.squares, rust.map(|total| total.squares));
-    assert_eq!(library.least, rust.map(|total| total.least));
-    assert_eq!(library.greatest, rust.map(|total| total.greatest));
+fn same_totals(record: &[u8]) {
+    let library = odr::totals(record);
+    let rust = totals::totals(record);
+    assert_eq!(library.refusal, number(&rust));
+    let channel = |t: totals::Total| odr::Total { sum: t.sum, squares: t.squares, least: t.least, greatest: t.greatest };
+    assert_eq!(library.channels, rust.unwrap_or_default().map(channel));
 }
 
 /// Read, then written with one number changed into other bytes.
 fn same_header(rng: &mut Rng, record: &[u8]) {
-    let mut values = [0; 46];
+    let mut values = [0; HEADER_VALUES];
     let refusal = odr::read_header(record, &mut values);
     let read = read_header(record);
     assert_eq!([refusal, odr::accept(record)], [number(&read), number(&header::accept(record))]);
     let Ok(mut header) = read else { return };
     assert_eq!(values.to_vec(), header.numbers().into_iter().map(|value| *value).collect::<Vec<u64>>());
-    let place = rng.next() as usize % 46;
+    let place = rng.next() as usize % HEADER_VALUES;
     let change = rng.next() >> (rng.next() % 64);
     values[place] ^= change;
     *header.numbers()[place] ^= change;
@@ -89,7 +72,7 @@ pub fn check(rng: &mut Rng) -> (usize, usize) {
     for _ in 0..CASES {
         let record = any_bytes(rng);
         accepted += usize::from(odr::accept(&record) == 0);
-        same_totals(&record[record.len().min(80)..record.len().min(4080)]);
+        same_totals(&record);
         same_header(rng, &record);
         same_samples(rng, &record);
     }

@@ -3,13 +3,12 @@
 use crate::clock::{alone, each, pair, time, ROUNDS, SHORTEST, SLOW_ROUNDS};
 use crate::records::Pool;
 use crate::table::{head, lone, row, Goal};
-use compare::odr;
+use compare::odr::{self, CELLS, LONGEST_LISTING};
 use second::gen::{self, set_tag, set_word, Rng};
 use second::record::RATES;
 use std::hint::black_box;
 use std::time::Duration;
 
-const CELLS: usize = 20;
 const FIRST_SECOND: u64 = 36_000;
 const SECONDS: u64 = 3_600;
 /// R of the two indexes.
@@ -23,7 +22,7 @@ const GROWTH: Goal = Goal { most: 1.5, limit: None };
 struct Index {
     count: u64,
     highest: u64,
-    opening: [u64; 9],
+    opening: odr::Opening,
     rows: Vec<u32>,
     seconds: Vec<u32>,
     /// The numbers 1 to this one are held.
@@ -33,15 +32,16 @@ struct Index {
 impl Index {
     fn new(pool: &Pool, count: u64, highest: u64) -> Self {
         let [rows, seconds] = [highest, count].map(|blocks| vec![0; CELLS * blocks as usize]);
-        let mut index = Index { count, highest, opening: [0; 9], rows, seconds, held: 0 };
+        let mut index = Index { count, highest, opening: odr::Opening::default(), rows, seconds, held: 0 };
         index.open(pool.at(0));
         index
     }
 
     fn open(&mut self, pattern: &[u8]) {
-        let Index { count, highest, opening, rows, seconds, held } = self;
-        assert_eq!(odr::open(pattern, FIRST_SECOND, *count, *highest, rows, seconds, opening), 0);
-        *held = 0;
+        let opened = odr::open(pattern, [FIRST_SECOND, self.count, self.highest], &mut self.rows, &mut self.seconds);
+        assert_eq!(opened.refusal, 0);
+        self.opening = opened.opening;
+        self.held = 0;
     }
 
     /// Puts a record under a number. The numbers' seconds are spread evenly over the window; this one's is later by so many.
@@ -49,7 +49,7 @@ impl Index {
         let second = (self.count * (number - 1) / self.highest + later) % self.count;
         set_word(record, 2, number);
         set_tag(record, 7, 1000 * (FIRST_SECOND + second));
-        assert_eq!(odr::put(&self.opening, black_box(record), &mut self.rows, &mut self.seconds), 0);
+        assert_eq!(odr::put(self.opening, black_box(record), &mut self.rows, &mut self.seconds), 0);
     }
 
     /// Puts the next numbers, none of them held, from a place of the pool on; `step` 0 puts one record again and again.
@@ -86,7 +86,7 @@ impl Index {
         while spent < SHORTEST {
             spent += time(0, TAKEN, |i| {
                 let number = self.some(i);
-                assert_eq!(odr::take_out(&self.opening, number, &mut self.rows, &mut self.seconds), 0);
+                assert_eq!(odr::take_out(self.opening, number, &mut self.rows, &mut self.seconds), 0);
             });
             calls += TAKEN;
             (0..TAKEN).for_each(|i| self.put(pool.at_mut(i), self.some(i), 0));
@@ -96,21 +96,18 @@ impl Index {
 
     /// Asks about seconds, one after the other or with `step` 0 the same one.
     fn ask(&self, step: u64) -> f64 {
-        let (mut counts, mut sums, mut squares, mut least, mut greatest) = ([0; 4], [0; 4], [0; 4], [0; 4], [0; 4]);
         let asked = |i: usize| {
             let second = FIRST_SECOND + i as u64 * step % self.count;
-            let out = (&mut counts, &mut sums, &mut squares, &mut least, &mut greatest);
-            let n = odr::ask(&self.opening, second, &self.rows, &self.seconds, out.0, out.1, out.2, out.3, out.4);
-            assert_eq!(n, 0);
+            let answer = odr::ask(self.opening, second, &self.rows, &self.seconds);
+            assert_eq!(answer.refusal, 0);
+            answer
         };
         let calls = 4 * SECONDS as usize;
         each(time(0, calls, asked), calls)
     }
 
     fn test(&self) {
-        let mut consistent = false;
-        assert_eq!(odr::test(&self.opening, &self.rows, &self.seconds, &mut consistent), 0);
-        assert!(consistent);
+        assert!(odr::test(self.opening, &self.rows, &self.seconds).consistent);
     }
 }
 
@@ -160,8 +157,8 @@ fn measure_listing(rng: &mut Rng) {
     println!("\n{:<58} {:>14}", "Listing", "library, ns");
     for (rate, words, records) in [(RATES[0], 2_195, 14), (RATES[6], 395, 82)] {
         let reel: Vec<u8> = (0..records).flat_map(|_| gen::record_with(rng, rate, words)).collect();
-        let (mut text, mut length) = (vec![0; 65_536], 0);
-        let list = |_| assert_eq!(odr::list(black_box(&reel), &mut text, &mut length), 0);
+        let mut text = [0; LONGEST_LISTING];
+        let list = |_| assert_eq!(odr::list(black_box(&reel), &mut text).refusal, 0);
         lone(&format!("reel of {} bytes, {records} records", reel.len()), alone(ROUNDS, list), records, "record");
     }
 }

@@ -16,8 +16,9 @@ const METHOD: &str = "\
 Both are built for release and take turns in one process, by the clock of the thread's own time. Times are medians of 101 rounds,
 or of 31 where a call takes longer than a tenth of a second; a round is a batch of at least 1 ms. A ratio is the median of the
 rounds' ratios, and the middle half of them is given. Records are in memory before a call. Hot is one record again and again,
-distinct is 10,000 of them in turn, for calls that write to a record 5,000. Buffers for answers are not cleared before a call, which
-overwrites them; what it copies out to them is in its time. So is, for a record put, that its number and time tag are set first.";
+distinct is 10,000 of them in turn, for calls that write to a record 5,000. Totals are of a record: both accept it first and then
+take its samples in one pass. What an answer costs to be handed back, by value or into lent memory, is in its call's time. So is, for
+a record put, that its number and time tag are set first.";
 
 fn main() {
     let mut rng = Rng(SEED);

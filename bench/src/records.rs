@@ -1,18 +1,16 @@
 //! Calls on records, measured against plain Rust: totals, acceptance and header, samples out and in, the header written.
 
-use crate::agree::{parts, parts_mut, Channels, Totals};
+use crate::agree::{parts, parts_mut, Channels};
 use crate::clock::versus;
 use crate::plain::{header, samples, totals, write};
 use crate::table::{head, row, Goal};
-use compare::odr;
+use compare::odr::{self, HEADER_VALUES};
 use second::gen::{self, Rng};
 use second::record::RATES;
 use std::hint::black_box;
-use std::ops::Range;
 
 const BYTES: usize = 4_390;
-/// The samples of a record of that length.
-const STRETCH: Range<usize> = 80..4_080;
+/// The samples of a channel in a record of that length.
 const COUNT: usize = 1_000;
 /// Records of the pool, and of each of its halves.
 const RECORDS: usize = 10_000;
@@ -63,10 +61,8 @@ fn hot_and_distinct<A, B>(
 }
 
 fn measure_reading(pool: &Pool) {
-    let mut out = Totals::default();
-    let library = |r: &[u8]| out.take(&r[STRETCH]);
-    hot_and_distinct("record totals, 4,000 bytes of samples", Some(TOTALS), pool, library, |r| totals::totals(&r[STRETCH]));
-    let mut values = [0; 46];
+    hot_and_distinct("acceptance and totals, 4 x 1,000 samples", Some(TOTALS), pool, odr::totals, totals::totals);
+    let mut values = [0; HEADER_VALUES];
     let library = |r: &[u8]| odr::read_header(r, &mut values);
     hot_and_distinct("acceptance and header, 46 numbers", Some(HEADER), pool, library, header::read_header);
     hot_and_distinct("acceptance alone", Some(HEADER), pool, odr::accept, header::accept);
@@ -86,7 +82,7 @@ fn measure_writing(pool: &mut Pool) {
     let mut channels: Channels = [(); 4].map(|_| vec![0; COUNT]);
     assert_eq!(odr::read_samples(pool.at(1), parts_mut(&mut channels)), 0);
     let mut header = header::read_header(pool.at(1)).expect("an accepted record");
-    let values: Vec<u64> = header.numbers().into_iter().map(|value| *value).collect();
+    let values: [u64; HEADER_VALUES] = std::array::from_fn(|i| *header.numbers()[i]);
     let (ours, theirs) = pool.0.split_at_mut(HALF * BYTES);
     for (kind, step) in [("hot", 0), ("distinct", 1)] {
         let library = |i: usize| odr::write_samples(nth(ours, i, step), parts(&channels));

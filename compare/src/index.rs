@@ -2,30 +2,40 @@
 //! "The ledger".
 
 use crate::lent::{around, Lent};
-use crate::odr;
-use crate::records::{any_bytes, TotalOutputs};
-use crate::run::{answer, part_of, Part, Run};
+use crate::odr::{self, Double, MeansAnswer, OpenAnswer, SecondAnswer, TestAnswer, CELLS};
+use crate::records::{any_bytes, total};
+use crate::run::{answer, Answer, Part, Run, Said};
 use second::book::{self, Ledger, Opening, SecondTotals};
 use second::gen::{self, set_word, word, Rng};
-use second::record::{rate_of, read_header, RATES};
-use second::samples::means;
+use second::record::{read_header, RATES};
+use second::samples::Means;
 use std::ops::Range;
 
-/// Cells of a row, and of a second; the cell of a row that holds its second (crates/index_model/specs/Cells.antt).
-const CELLS: usize = 20;
+/// The cell of a row that holds its second (crates/index_model/specs/Cells.antt).
 const SECOND_CELL: usize = 3;
 const DAY: u64 = 86_400;
 
-fn numbers(o: &Opening) -> Vec<u64> {
-    vec![o.first_second, o.count, o.highest, o.rate, o.tape, o.year, o.day, o.spacecraft, o.spc]
+fn numbers(o: &Opening) -> [u64; 9] {
+    [o.first_second, o.count, o.highest, o.rate, o.tape, o.year, o.day, o.spacecraft, o.spc]
 }
 
-/// Numbers that are not given count as 0.
-fn opening_of(numbers: &[u64]) -> Opening {
-    let at = |i: usize| numbers.get(i).copied().unwrap_or(0);
-    let [first_second, count, highest] = [at(0), at(1), at(2)];
-    let [rate, tape, year, day, spacecraft, spc] = [at(3), at(4), at(5), at(6), at(7), at(8)];
+fn opening_of([first_second, count, highest, rate, tape, year, day, spacecraft, spc]: [u64; 9]) -> Opening {
     Opening { first_second, count, highest, rate, tape, year, day, spacecraft, spc }
+}
+
+/// An opening as the library takes and gives it.
+fn passed(o: &Opening) -> odr::Opening {
+    odr::Opening {
+        first_second: o.first_second,
+        second_count: o.count,
+        highest_number: o.highest,
+        sample_rate_hz: o.rate,
+        tape_number: o.tape,
+        year: o.year,
+        day: o.day,
+        spacecraft: o.spacecraft,
+        spc: o.spc,
+    }
 }
 
 /// The cells of row or second `i`.
@@ -33,25 +43,19 @@ fn block(i: u64) -> Range<usize> {
     CELLS * i as usize..CELLS * (i as usize + 1)
 }
 
-/// Opens an index with buffers of these lengths: row cells, second cells, and numbers of the opening.
-fn open(run: &mut Run, pattern: Vec<u8>, [first, count, highest]: [u64; 3], lengths: [usize; 3]) -> Option<History> {
-    let expected = book::open(&pattern, first, count, highest, lengths[0], lengths[1]);
-    let mut rows = Lent::random(&mut run.rng, lengths[0]);
-    let mut seconds = Lent::random(&mut run.rng, lengths[1]);
-    let mut opening = Lent::random(&mut run.rng, lengths[2]);
+/// Opens an index with buffers of these lengths: row cells and second cells.
+fn open(run: &mut Run, pattern: Vec<u8>, limits: [u64; 3], lengths: [usize; 2]) -> Option<History> {
+    let [first, count, highest] = limits;
+    let opened = book::open(&pattern, first, count, highest, lengths[0], lengths[1]);
+    let expected = answer(&opened, |o| OpenAnswer { refusal: 0, opening: passed(o) });
+    let [mut rows, mut seconds] = lengths.map(|length| Lent::random(&mut run.rng, length));
     let mut record = Lent::of(&pattern);
-    let (row_cells, second_cells) = (rows.body_mut(), seconds.body_mut());
-    let actual = odr::open(record.body(), first, count, highest, row_cells, second_cells, opening.body_mut());
-    let cleared = |count: fn(&Opening) -> u64| part_of(&expected, |o| vec![0; CELLS * count(o) as usize]);
-    let parts = [
-        ("pattern", record.difference()),
-        ("rows", rows.check(&cleared(|o| o.highest))),
-        ("seconds", seconds.check(&cleared(|o| o.count))),
-        ("opening", opening.check(&part_of(&expected, numbers))),
-    ];
-    run.compare("odr_open", actual, answer(&expected), &parts);
-    let opened = expected.ok()?;
-    Some(History { pattern, given: opened.clone(), opened, ledger: Ledger::default(), opening, rows, seconds })
+    let actual = odr::open(record.body(), limits, rows.body_mut(), seconds.body_mut());
+    let [no_rows, no_seconds] = opened.as_ref().map_or([0, 0], |o| [o.highest, o.count]).map(|blocks| vec![0; block(blocks).start]);
+    let parts = [("pattern", record.difference()), ("rows", rows.check(&no_rows)), ("seconds", seconds.check(&no_seconds))];
+    run.compare("odr_open", actual, expected, &parts);
+    let opened = opened.ok()?;
+    Some(History { pattern, given: opened.clone(), opened, ledger: Ledger::default(), rows, seconds })
 }
 
 /// An opening of any kind, most of them refused.
@@ -63,8 +67,7 @@ pub fn open_any(run: &mut Run) {
     let rest = DAY.saturating_sub(first);
     let count = rng.pick(&[small, small, small, 1, 0, rest, rest + 1, DAY, DAY + 1, u64::MAX]);
     let highest = rng.pick(&[small, small, small, 1, 0, 65_535, 65_536, u64::MAX]);
-    let exact = [CELLS * highest.min(100) as usize, CELLS * count.min(100) as usize, 9];
-    let lengths = exact.map(|exact| around(rng, exact));
+    let lengths = [highest, count].map(|blocks| around(rng, block(blocks.min(100)).start));
     open(run, pattern, [first, count, highest], lengths);
 }
 
@@ -81,7 +84,7 @@ pub fn history(run: &mut Run) {
     };
     let any = rng.within(0, DAY - count);
     let limits = [rng.pick(&[0, DAY - count, any, any]), count, highest];
-    let lengths = [CELLS * highest as usize, CELLS * count as usize, 9].map(|exact| exact + rng.pick(&[0, 0, 1, 25]));
+    let lengths = [highest, count].map(|blocks| block(blocks).start + rng.pick(&[0, 0, 1, 25]));
     let pattern = gen::record_of(rng, rate);
     if let Some(mut history) = open(run, pattern, limits, lengths) {
         if run.rng.one_in(2) {
@@ -118,7 +121,6 @@ struct History {
     opened: Opening,
     given: Opening,
     ledger: Ledger,
-    opening: Lent<u64>,
     rows: Lent<u32>,
     seconds: Lent<u32>,
 }
@@ -223,21 +225,21 @@ impl History {
         [self.rows.body().len(), self.seconds.body().len()]
     }
 
-    /// The answer is one that 01 states: it does not turn on cells, or the opening given is the one that opening returned.
-    fn is_stated(&self, expected: u8) -> bool {
-        self.given == self.opened || !matches!(expected, 0 | 18 | 19)
+    /// What 01 says of an answer: it is the ledger's, but where it turns on cells and the opening given is not the one that opening
+    /// returned. Then it is accepted, or refused by the number that turns on cells, if the call has one.
+    fn said<T, A: Answer>(&self, expected: &Result<T, u8>, given: impl Fn(&T) -> A, turning: u8) -> Said<A> {
+        let expected = answer(expected, given);
+        let open = self.given != self.opened && [0, turning].contains(&expected.number());
+        if open { Said::Open(turning) } else { Said::Is(expected) }
     }
 
-    /// Of a put or take-out whose answer is not stated: 0, and then the cells may be as they are, or its refusal that turns on
-    /// cells.
-    fn unstated_answer(&mut self, actual: u8, refusal: u8) -> u8 {
-        if actual == refusal {
-            return refusal;
+    /// Of an answer that is left open: a refusal alters nothing, else the cells may be as they are.
+    fn allow_if_accepted(&mut self, actual: u8) {
+        if actual == 0 {
+            let [rows, seconds] = self.lengths();
+            self.rows.allow_change(0..rows);
+            self.seconds.allow_change(0..seconds);
         }
-        let [rows, seconds] = self.lengths();
-        self.rows.allow_change(0..rows);
-        self.seconds.allow_change(0..seconds);
-        0
     }
 
     /// The cells of the seconds that an accepted call leaves or joins may have changed.
@@ -253,31 +255,37 @@ impl History {
         let (number, joined) = (header.record_number, Some(header.time_tag_ms / 1000));
         let left = self.second_of(number);
         let [rows, seconds] = self.lengths();
-        let expected = answer(&self.ledger.put(&self.given, record.body(), rows, seconds));
-        let stated = self.is_stated(expected);
-        let actual = odr::put(self.opening.body(), record.body(), self.rows.body_mut(), self.seconds.body_mut());
-        let expected = if stated { expected } else { self.unstated_answer(actual, 18) };
+        let expected = self.ledger.put(&self.given, record.body(), rows, seconds);
+        let said = self.said(&expected, |_| 0, 18);
+        let actual = odr::put(passed(&self.given), record.body(), self.rows.body_mut(), self.seconds.body_mut());
         let mut kind = "";
-        if stated && expected == 0 {
-            self.rows.allow_change(block(number - 1));
-            self.allow_seconds([left, joined]);
-            kind = if left.is_none() { "" } else if left == joined { "in place " } else { "moved " };
+        match said {
+            Said::Open(_) => self.allow_if_accepted(actual),
+            Said::Is(0) => {
+                self.rows.allow_change(block(number - 1));
+                self.allow_seconds([left, joined]);
+                kind = if left.is_none() { "" } else if left == joined { "in place " } else { "moved " };
+            }
+            _ => {}
         }
-        self.compare(run, ("odr_put", kind), stated, [actual, expected], &[("record", record.difference())]);
+        self.compare(run, ("odr_put", kind), actual, said, &[("record", record.difference())]);
     }
 
     fn take_out(&mut self, run: &mut Run, number: u64) {
         let left = self.second_of(number);
         let [rows, seconds] = self.lengths();
-        let expected = answer(&self.ledger.take_out(&self.given, number, rows, seconds));
-        let stated = self.is_stated(expected);
-        let actual = odr::take_out(self.opening.body(), number, self.rows.body_mut(), self.seconds.body_mut());
-        let expected = if stated { expected } else { self.unstated_answer(actual, 19) };
-        if stated && expected == 0 {
-            self.rows.expect(block(number - 1).start, &[0; CELLS]);
-            self.allow_seconds([left, None]);
+        let expected = self.ledger.take_out(&self.given, number, rows, seconds);
+        let said = self.said(&expected, |_| 0, 19);
+        let actual = odr::take_out(passed(&self.given), number, self.rows.body_mut(), self.seconds.body_mut());
+        match said {
+            Said::Open(_) => self.allow_if_accepted(actual),
+            Said::Is(0) => {
+                self.rows.expect(block(number - 1).start, &[0; CELLS]);
+                self.allow_seconds([left, None]);
+            }
+            _ => {}
         }
-        self.compare(run, ("odr_take_out", ""), stated, [actual, expected], &[]);
+        self.compare(run, ("odr_take_out", ""), actual, said, &[]);
     }
 
     /// The ledger's totals of a second.
@@ -288,71 +296,95 @@ impl History {
 
     fn ask(&mut self, run: &mut Run, second: u64) {
         let expected = self.totals(second);
-        let stated = self.is_stated(answer(&expected));
-        let mut counts = Lent::output(&mut run.rng, 4);
-        let mut out = TotalOutputs::new(&mut run.rng);
-        let (rows, seconds) = (self.rows.body(), self.seconds.body());
-        let (sums, squares) = (out.sums.body_mut(), out.squares.body_mut());
-        let (least, greatest) = (out.least.body_mut(), out.greatest.body_mut());
-        let actual = odr::ask(self.opening.body(), second, rows, seconds, counts.body_mut(), sums, squares, least, greatest);
-        let counted = part_of(&expected, |t| vec![t.records, t.origins, t.errors, u64::from(t.kept)]);
-        let mut parts = vec![("counts", counts.check_if(stated, &counted))];
-        parts.extend(out.check_if(stated, &part_of(&expected, |t| t.channels)));
-        let kind = if expected.as_ref().is_ok_and(|t| t.kept) { "kept " } else { "" };
-        self.compare(run, ("odr_ask", kind), stated, [actual, answer(&expected)], &parts);
+        let given = |t: &SecondTotals| SecondAnswer {
+            refusal: 0,
+            records: t.records as u32,
+            origins: t.origins as u32,
+            errors: t.errors as u32,
+            channels: t.channels.map(total),
+            kept: t.kept,
+        };
+        let said = self.said(&expected, given, 0);
+        let kind = match said {
+            Said::Is(SecondAnswer { refusal: 0, records: 0, .. }) => "empty ",
+            Said::Is(SecondAnswer { kept: true, .. }) => "kept ",
+            _ => "",
+        };
+        let actual = odr::ask(passed(&self.given), second, self.rows.body(), self.seconds.body());
+        self.compare(run, ("odr_ask", kind), actual, said, &[]);
     }
 
     fn means(&mut self, run: &mut Run, second: u64) {
-        let samples = rate_of(self.given.rate).map_or(0, |rate| rate.samples);
-        let expected = part_of(&self.totals(second), |t| {
-            let means = t.channels.map(|channel| means(channel, t.records * samples));
-            means.iter().flat_map(|m| [m.mean, m.mean_square]).collect()
-        });
-        let stated = self.is_stated(answer(&expected));
-        let mut output = Lent::output(&mut run.rng, 8);
-        let (rows, seconds) = (self.rows.body(), self.seconds.body());
-        let actual = odr::second_means(self.opening.body(), second, rows, seconds, output.body_mut());
-        let parts = [("means", output.check_if(stated, &expected))];
-        self.compare(run, ("odr_second_means", ""), stated, [actual, answer(&expected)], &parts);
-    }
-
-    /// The test, which is also stated of a forged opening whose window and numbers are the true ones.
-    fn test(&mut self, run: &mut Run, consistent: bool) {
         let [rows, seconds] = self.lengths();
-        let expected = self.ledger.book_test(&self.given, rows, seconds).map(|_| vec![consistent]);
-        let stated = expected.is_err() || numbers(&self.given)[..3] == numbers(&self.opened)[..3];
-        let mut output = Lent::random(&mut run.rng, 1);
-        let actual = odr::test(self.opening.body(), self.rows.body(), self.seconds.body(), &mut output.body_mut()[0]);
-        let kind = if expected.is_err() { "" } else if consistent { "yes " } else { "no " };
-        let parts = [("consistent", output.check_if(stated, &expected))];
-        self.compare(run, ("odr_test", kind), stated, [actual, answer(&expected)], &parts);
+        let expected = self.ledger.means(&self.given, second, rows, seconds);
+        let one = |m: Means| odr::Means { mean: Double(m.mean), mean_square: Double(m.mean_square) };
+        let said = self.said(&expected, |means| MeansAnswer { refusal: 0, channels: means.map(one) }, 0);
+        let empty = self.given == self.opened && self.totals(second).is_ok_and(|t| t.records == 0);
+        let actual = odr::second_means(passed(&self.given), second, self.rows.body(), self.seconds.body());
+        self.compare(run, ("odr_second_means", if empty { "empty " } else { "" }), actual, said, &[]);
     }
 
-    /// Compares a call of some kind: its answer, the opening, every cell, and the parts of memory that only this call has.
-    fn compare(&mut self, run: &mut Run, (call, kind): (&str, &str), stated: bool, [actual, expected]: [u8; 2], parts: &[Part]) {
-        let outcome = if stated { format!("{kind}{expected}") } else { "left open".to_string() };
-        let opening = ("opening", self.opening.difference());
-        let cells = [opening, ("rows", self.rows.difference()), ("seconds", self.seconds.difference())];
-        run.compare_as(call, &outcome, actual, expected, &[&cells, parts].concat());
+    /// Whether the rows of the opening given are those of the records in its seconds; none where its rows and seconds are not all
+    /// among those opened.
+    fn is_consistent(&self) -> Option<bool> {
+        let Opening { first_second, count, highest, .. } = self.given;
+        let among = first_second == self.opened.first_second && count <= self.opened.count && highest <= self.opened.highest;
+        let inside = |number| self.second_of(number).is_some_and(|second| second < first_second + count);
+        let mut held = self.ledger.records.keys().map(|&number| u64::from(number));
+        among.then(|| held.all(|number| (number <= highest) == inside(number)))
     }
 
-    /// This history with an opening that differs in a number, has too few numbers, or comes with buffers that are too short.
+    /// The test: 01 states it of any cells, so of a forged opening too.
+    fn test(&mut self, run: &mut Run, undamaged: bool) {
+        let [rows, seconds] = self.lengths();
+        let refusal = self.ledger.book_test(&self.given, rows, seconds);
+        let said = match (refusal, self.is_consistent()) {
+            (Err(number), _) => Said::Is(TestAnswer::refused(number)),
+            (_, Some(consistent)) => Said::Is(TestAnswer { refusal: 0, consistent: consistent && undamaged }),
+            (_, None) => Said::Open(0),
+        };
+        let kind = match said {
+            Said::Is(TestAnswer { refusal: 0, consistent }) => if consistent { "yes " } else { "no " },
+            _ => "",
+        };
+        let actual = odr::test(passed(&self.given), self.rows.body(), self.seconds.body());
+        self.compare(run, ("odr_test", kind), actual, said, &[]);
+    }
+
+    /// Compares a call of some kind: its answer, every cell, and the parts of memory that only this call has.
+    fn compare<A: Answer>(&mut self, run: &mut Run, (call, kind): (&str, &str), actual: A, said: Said<A>, parts: &[Part]) {
+        let needed = [self.opened.highest, self.opened.count].map(|blocks| block(blocks).start);
+        let short = self.lengths().iter().zip(needed).any(|(&length, needed)| length < needed);
+        let whose = if self.given != self.opened { "forged " } else if short { "short " } else { "" };
+        let outcome = match said {
+            Said::Is(expected) => format!("{whose}{kind}{}", expected.number()),
+            Said::Open(_) => format!("{whose}left open"),
+        };
+        let cells = [("rows", self.rows.difference()), ("seconds", self.seconds.difference())];
+        run.compare_as(call, &outcome, actual, said, &[&cells, parts].concat());
+    }
+
+    /// This history with an opening that has another number, fewer seconds or rows, or only zeros, or with buffers that are too
+    /// short.
     fn forged(&self, rng: &mut Rng) -> History {
         let mut forged = self.clone();
-        let mut numbers = self.opening.body().to_vec();
-        let at = rng.next() as usize % 9;
+        let mut numbers = numbers(&self.opened);
+        let at = rng.next() as usize % numbers.len();
         let (own, bit, rate) = (numbers[at], 1 << (rng.next() % 64), rng.pick(&RATES).hz);
-        match rng.next() % 8 {
-            0 => forged.rows.shorten(rng.within(0, CELLS as u64 * self.opened.highest - 1) as usize),
-            1 => forged.seconds.shorten(rng.within(0, CELLS as u64 * self.opened.count - 1) as usize),
-            2 => numbers.truncate(at),
+        match rng.next() % 16 {
+            0..=1 => forged.rows.shorten(rng.within(0, block(self.opened.highest).start as u64 - 1) as usize),
+            2..=3 => forged.seconds.shorten(rng.within(0, block(self.opened.count).start as u64 - 1) as usize),
+            4 => numbers = [0; 9],
+            5 => {
+                let which = 1 + rng.next() as usize % 2;
+                numbers[which] = rng.within(1, numbers[which]);
+            }
             _ => {
                 let near = rng.pick(&[own.wrapping_sub(1), own + 1, own ^ bit, own + 256]);
                 numbers[at] = rng.pick(&[near, near, 0, 100, 367, rate, 65_536, DAY, DAY + 1, u64::MAX]);
             }
         }
-        forged.given = opening_of(&numbers);
-        forged.opening = Lent::of(&numbers);
+        forged.given = opening_of(numbers);
         forged
     }
 

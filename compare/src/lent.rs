@@ -6,31 +6,19 @@ use std::fmt::Debug;
 use std::hint::black_box;
 use std::ops::Range;
 
-/// An element of a lent buffer; two are the same where their bits are, floats too.
-pub trait Element: Copy + Debug {
+/// An element of a lent buffer.
+pub trait Element: Copy + Debug + PartialEq {
     fn of_bits(bits: u64) -> Self;
-    fn bits(self) -> u64;
 }
 
 macro_rules! elements {
     ($($kind:ty)*) => {$(
         impl Element for $kind {
             fn of_bits(bits: u64) -> Self { bits as $kind }
-            fn bits(self) -> u64 { self as u64 }
         }
     )*};
 }
-elements!(u8 i8 u32 u64 i64 usize);
-
-impl Element for f64 {
-    fn of_bits(bits: u64) -> Self { f64::from_bits(bits) }
-    fn bits(self) -> u64 { self.to_bits() }
-}
-
-impl Element for bool {
-    fn of_bits(bits: u64) -> Self { bits & 1 == 1 }
-    fn bits(self) -> u64 { u64::from(self) }
-}
+elements!(u8 i8 u32 u64);
 
 /// Guard elements on each side.
 const GUARD: usize = 8;
@@ -54,12 +42,6 @@ impl<T: Element> Lent<T> {
     pub fn random(rng: &mut Rng, length: usize) -> Self {
         let body: Vec<T> = (0..length).map(|_| T::of_bits(rng.next())).collect();
         Self::of(&body)
-    }
-
-    /// A buffer for `exact` elements: empty, too short, exact or too long.
-    pub fn output(rng: &mut Rng, exact: usize) -> Self {
-        let length = around(rng, exact);
-        Self::random(rng, length)
     }
 
     /// Lends only this many elements from now on; the others are guards.
@@ -97,24 +79,15 @@ impl<T: Element> Lent<T> {
     pub fn difference(&mut self) -> Option<String> {
         // The memory may have changed behind the compiler's back: it was lent as constant, too.
         let memory = black_box(&mut self.memory);
-        let at = memory.iter().zip(&self.expected).position(|(now, expected)| now.bits() != expected.bits())?;
+        let at = memory.iter().zip(&self.expected).position(|(now, expected)| now != expected)?;
         let place = at as i64 - GUARD as i64;
         Some(format!("element {place} of {} is {:?}, expected {:?}", self.length, memory[at], self.expected[at]))
     }
 
-    /// The difference of an output: these elements from its start on, nothing where the call is refused.
-    pub fn check(&mut self, expected: &Result<Vec<T>, u8>) -> Option<String> {
-        self.expect(0, expected.as_deref().unwrap_or(&[]));
+    /// The difference of memory that a call writes to: these elements from its start on.
+    pub fn check(&mut self, written: &[T]) -> Option<String> {
+        self.expect(0, written);
         self.difference()
-    }
-
-    /// As `check` where 01 states the elements; else they may be any, inside the guards.
-    pub fn check_if(&mut self, stated: bool, expected: &Result<Vec<T>, u8>) -> Option<String> {
-        if !stated {
-            self.allow_change(0..self.length);
-            return self.difference();
-        }
-        self.check(expected)
     }
 }
 

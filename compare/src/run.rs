@@ -1,12 +1,14 @@
-//! A run of the differential tests: its cases, how often each outcome of each call was hit, and the first difference, which ends
+//! A run of the differential tests: its cases, how often each outcome of each call was met, and the first difference, which ends
 //! it. 01, "Refusal numbers".
 
+use crate::odr;
 use second::gen::Rng;
+use std::fmt::Debug;
 
-/// Each call with every outcome that must be hit: the refusal numbers that c/odr.h names, 0 for none. Kinds of one number are
-/// told apart by words; "left open" is an answer on cells that 01 says nothing of, where guards and other refusals alone are
-/// compared.
-const CALLS: [(&str, &str); 25] = [
+/// Each call with every outcome that must be met: the numbers that c/odr.h names, 0 for no refusal. Kinds of one number are told
+/// apart by words: `forged` is an opening that odr_open did not return, `short` a buffer of too few cells; of an answer that is
+/// `left open` 01 says no more than what `Said::Open` has.
+const CALLS: [(&str, &str); 19] = [
     ("odr_accept", "0,1-11"),
     ("odr_read_header", "0,1-11"),
     ("odr_write_header", "0,1-11,22"),
@@ -15,23 +17,17 @@ const CALLS: [(&str, &str); 25] = [
     ("odr_write_samples", "0,1-11,12"),
     ("odr_sample_time", "0,1-11,12"),
     ("odr_phases", "0,1-11"),
+    ("odr_totals", "0,1-11"),
     ("odr_segment", "this 0,earlier 0,this 1-11,earlier 1-11,20,23"),
-    ("odr_step", "0,finished,1-11"),
-    ("odr_first", "0,finished,1-11"),
-    ("odr_record", "0,none"),
-    ("odr_totals", "0,more sets"),
-    ("odr_means", "0,no samples,above 2^53"),
+    ("odr_step", "record 0,finished 255,1-11"),
     ("odr_open", "0,1-11,13-14"),
-    ("odr_put", "0,in place 0,moved 0,1-11,13-18,left open"),
-    ("odr_take_out", "0,13-14,16,19,left open"),
-    ("odr_ask", "0,kept 0,13-14,17,left open"),
-    ("odr_second_means", "0,13-14,17,left open"),
-    ("odr_test", "yes 0,no 0,13-14,left open"),
+    ("odr_put", "0,in place 0,moved 0,1-11,15-18,short 1-11,short 14,forged 1-11,forged 13-17,forged left open"),
+    ("odr_take_out", "0,16,19,short 14,forged 13-14,forged 16,forged left open"),
+    ("odr_ask", "0,empty 0,kept 0,17,short 14,forged 13-14,forged 17,forged left open"),
+    ("odr_second_means", "0,empty 0,17,short 14,forged 13-14,forged 17,forged left open"),
+    ("odr_test", "yes 0,no 0,short 14,forged yes 0,forged no 0,forged 13-14,forged left open"),
     ("odr_record_line", "0,1-11,21"),
     ("odr_list", "0,line 1-11,line 24,21"),
-    ("odr_header_line", "0,21"),
-    ("odr_columns_line", "0,21"),
-    ("odr_refused_line", "0,21"),
 ];
 
 /// The outcomes of such a list: a range stands for each of its numbers.
@@ -47,6 +43,68 @@ fn outcomes(list: &str) -> Vec<String> {
     list.split(',').flat_map(each).collect()
 }
 
+/// An answer of the library. Beside a refusal's number every other member is 0.
+pub trait Answer: Copy + Debug + PartialEq {
+    fn refused(number: u8) -> Self;
+    fn number(&self) -> u8;
+}
+
+impl Answer for u8 {
+    fn refused(number: u8) -> Self {
+        number
+    }
+
+    fn number(&self) -> u8 {
+        *self
+    }
+}
+
+macro_rules! answers {
+    ($($name:ident $number:ident)*) => {$(
+        impl Answer for odr::$name {
+            fn refused($number: u8) -> Self {
+                Self { $number, ..Default::default() }
+            }
+
+            fn number(&self) -> u8 {
+                self.$number
+            }
+        }
+    )*};
+}
+answers! {
+    RateAnswer refusal TimeAnswer refusal PhasesAnswer refusal TotalsAnswer refusal SegmentAnswer refusal StepAnswer answer
+    OpenAnswer refusal SecondAnswer refusal MeansAnswer refusal TestAnswer refusal TextAnswer refusal
+}
+
+/// The answer that the library has to give where the second program gives this.
+pub fn answer<T, A: Answer>(expected: &Result<T, u8>, given: impl FnOnce(&T) -> A) -> A {
+    expected.as_ref().map_or_else(|&number| A::refused(number), given)
+}
+
+/// What 01 says of an answer.
+pub enum Said<A> {
+    Is(A),
+    /// It turns on cells of which 01 says nothing: accepted, or refused with this number, if it is not 0.
+    Open(u8),
+}
+
+impl<A: Answer> Said<A> {
+    fn allows(&self, actual: A) -> bool {
+        match *self {
+            Said::Is(expected) => actual == expected,
+            Said::Open(refusal) => [0, refusal].contains(&actual.number()),
+        }
+    }
+
+    fn words(&self) -> String {
+        match self {
+            Said::Is(expected) => format!("{expected:?}"),
+            Said::Open(refusal) => format!("left open, with 0 or {refusal}"),
+        }
+    }
+}
+
 /// A part of lent memory, and how it differs from what is expected.
 pub type Part = (&'static str, Option<String>);
 
@@ -54,31 +112,31 @@ pub struct Run {
     pub rng: Rng,
     pub cases: u64,
     seed: u64,
-    hits: Vec<(&'static str, Vec<(String, u64)>)>,
+    met: Vec<(&'static str, Vec<(String, u64)>)>,
 }
 
 impl Run {
     pub fn new(seed: u64) -> Self {
-        let hits = CALLS.map(|(call, list)| (call, outcomes(list).into_iter().map(|outcome| (outcome, 0)).collect()));
-        Run { rng: Rng(seed), cases: 0, seed, hits: hits.into() }
+        let met = CALLS.map(|(call, list)| (call, outcomes(list).into_iter().map(|outcome| (outcome, 0)).collect()));
+        Run { rng: Rng(seed), cases: 0, seed, met: met.into() }
     }
 
-    /// One compared call whose outcome is its answer.
-    pub fn compare(&mut self, call: &str, actual: u8, expected: u8, parts: &[Part]) {
-        self.compare_as(call, &expected.to_string(), actual, expected, parts);
+    /// One compared call whose outcome is its number.
+    pub fn compare<A: Answer>(&mut self, call: &str, actual: A, expected: A, parts: &[Part]) {
+        self.compare_as(call, &expected.number().to_string(), actual, Said::Is(expected), parts);
     }
 
-    /// One compared call: the library's answer and the second program's, and each part of lent memory. A difference ends the run.
-    pub fn compare_as(&mut self, call: &str, outcome: &str, actual: u8, expected: u8, parts: &[Part]) {
+    /// One compared call: the library's answer, every member of it, and each part of lent memory. A difference ends the run.
+    pub fn compare_as<A: Answer>(&mut self, call: &str, outcome: &str, actual: A, said: Said<A>, parts: &[Part]) {
         self.cases += 1;
         let different: Vec<&Part> = parts.iter().filter(|part| part.1.is_some()).collect();
-        let counts = self.hits.iter_mut().find(|hits| hits.0 == call).map(|hits| &mut hits.1);
+        let counts = self.met.iter_mut().find(|met| met.0 == call).map(|met| &mut met.1);
         let count = counts.and_then(|counts| counts.iter_mut().find(|count| count.0 == outcome));
         match count {
-            Some(count) if actual == expected && different.is_empty() => count.1 += 1,
+            Some(count) if said.allows(actual) && different.is_empty() => count.1 += 1,
             _ => {
                 println!("DIFFERENT: {call}, seed {}, case {}, outcome {outcome}", self.seed, self.cases);
-                println!("  answer: the library {actual}, the second program {expected}");
+                println!("  the library answers {actual:?}\n  the second program {}", said.words());
                 for (name, difference) in different {
                     println!("  {name}: {}", difference.as_deref().unwrap_or(""));
                 }
@@ -87,26 +145,16 @@ impl Run {
         }
     }
 
-    /// Prints the table of outcomes, and gives those that were never hit.
+    /// Prints the table of outcomes, and gives those that were never met.
     pub fn report(&self) -> Vec<String> {
-        for (call, counts) in &self.hits {
+        for (call, counts) in &self.met {
             let total: u64 = counts.iter().map(|count| count.1).sum();
             let each: Vec<String> = counts.iter().map(|(outcome, count)| format!("{outcome}: {count}")).collect();
             println!("{call}: {total} cases\n    {}", each.join(", "));
         }
-        let unhit = |call: &str, counts: &[(String, u64)]| -> Vec<String> {
+        let unmet = |call: &str, counts: &[(String, u64)]| -> Vec<String> {
             counts.iter().filter(|count| count.1 == 0).map(|count| format!("{call} {}", count.0)).collect()
         };
-        self.hits.iter().flat_map(|(call, counts)| unhit(call, counts)).collect()
+        self.met.iter().flat_map(|(call, counts)| unmet(call, counts)).collect()
     }
-}
-
-/// The answer of a call as a number.
-pub fn answer<T>(expected: &Result<T, u8>) -> u8 {
-    expected.as_ref().map_or_else(|&number| number, |_| 0)
-}
-
-/// A part of what a call gives.
-pub fn part_of<T, U>(expected: &Result<T, u8>, part: impl Fn(&T) -> U) -> Result<U, u8> {
-    expected.as_ref().map(part).map_err(|&number| number)
 }

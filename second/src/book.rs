@@ -1,7 +1,7 @@
 //! 01 "The book" and "The ledger": records held by number, every answer worked out from nothing.
 
 use crate::record::{rate_of, read_header, Header};
-use crate::samples::{channels, total, Total};
+use crate::samples::{channels, means, total, Means, Total};
 use std::collections::BTreeMap;
 
 /// What opening returns: the limits given and the pattern's values that 15 compares.
@@ -124,21 +124,34 @@ impl Ledger {
         self.records.remove(&number).map(|_| ()).ok_or(19)
     }
 
-    pub fn ask(&self, o: &Opening, second: u64, row_cells_len: usize, second_cells_len: usize) -> Result<SecondTotals, u8> {
-        judge(o, row_cells_len, second_cells_len)?;
-        o.window(second)?;
-        let held = self.of_second(second);
+    /// Every sample of each channel in a second's held records.
+    fn samples(&self, second: u64) -> Result<[Vec<i8>; 4], u8> {
         let mut samples: [Vec<i8>; 4] = Default::default();
-        for (_, _, bytes) in &held {
+        for (_, _, bytes) in self.of_second(second) {
             for (all, more) in samples.iter_mut().zip(channels(bytes)?) {
                 all.extend(more);
             }
         }
+        Ok(samples)
+    }
+
+    pub fn ask(&self, o: &Opening, second: u64, row_cells_len: usize, second_cells_len: usize) -> Result<SecondTotals, u8> {
+        judge(o, row_cells_len, second_cells_len)?;
+        o.window(second)?;
+        let held = self.of_second(second);
         let records = held.len() as u64;
         let origins = held.iter().filter(|(_, h, _)| h.clock_origin == 1).count() as u64;
         let errors = held.iter().filter(|(_, h, _)| h.copy_error == 1).count() as u64;
         let kept = records == o.full() && origins >= 1 && errors == 0;
-        Ok(SecondTotals { records, origins, errors, channels: samples.map(|s| total(&s)), kept })
+        let channels = self.samples(second)?.map(|samples| total(&samples));
+        Ok(SecondTotals { records, origins, errors, channels, kept })
+    }
+
+    /// The means of each channel over the samples that the second's held records have: asked as the totals are.
+    pub fn means(&self, o: &Opening, second: u64, row_cells_len: usize, second_cells_len: usize) -> Result<[Means; 4], u8> {
+        judge(o, row_cells_len, second_cells_len)?;
+        o.window(second)?;
+        Ok(self.samples(second)?.map(|samples| means(total(&samples), samples.len() as u64)))
     }
 
     /// The ledger's book test: yes, but for 13 and 14.

@@ -118,6 +118,21 @@ fn totals_and_means() {
     });
     let five = Total { sum: 500, squares: 2500, least: 5, greatest: 5 };
     assert_eq!(totals(&r), Ok([five, Total { sum: 367, squares: 18_859, least: -128, greatest: 5 }, five, five]));
+    // The samples end at N. A record that is not accepted has no totals, though its samples are there.
+    for rate in RATES {
+        let mut r = plain(rate.hz, 1, 0);
+        let end = 2 * rate.n as usize;
+        r[80..end].fill(0xFF);
+        r[end..].fill(7);
+        let ones = Total { sum: -(rate.samples as i64), squares: rate.samples, least: -1, greatest: -1 };
+        assert_eq!(totals(&r), Ok([ones; 4]));
+        r[1] = 0;
+        assert_eq!(totals(&r), Err(7));
+        r.truncate(end);
+        assert_eq!(totals(&r), Err(2));
+    }
+    assert_eq!(totals(&with(|r| set_word(r, 38, 0))), Err(11));
+    assert_eq!(totals(&case()[..79]), Err(1));
 }
 
 #[test]
@@ -438,6 +453,7 @@ fn refusal_13() {
         let mut ledger = Ledger::default();
         assert_eq!(ledger.book_test(&o, 40, 20).err().unwrap_or(0), found);
         assert_eq!(ledger.ask(&o, 43_200, 40, 20).err().unwrap_or(0), found);
+        assert_eq!(ledger.means(&o, 43_200, 40, 20).err().unwrap_or(0), found);
         assert_eq!(ledger.take_out(&o, 1, 40, 20), Err(if found == 0 { 19 } else { 13 }));
         assert_eq!(ledger.put(&o, &pattern, 40, 20), Err(if found == 0 { 15 } else { 13 }));
         assert_eq!(ledger.put(&o, &[], 40, 20), Err(1));
@@ -455,6 +471,7 @@ fn refusal_14() {
         let mut ledger = Ledger::default();
         assert_eq!(ledger.put(&o, &pattern, rows, seconds).err().unwrap_or(0), found);
         assert_eq!(ledger.ask(&o, 43_200, rows, seconds).err().unwrap_or(0), found);
+        assert_eq!(ledger.means(&o, 43_200, rows, seconds).err().unwrap_or(0), found);
         assert_eq!(ledger.book_test(&o, rows, seconds).err().unwrap_or(0), found);
         assert_eq!(ledger.take_out(&o, 1, rows, seconds).err().unwrap_or(0), found);
     }
@@ -513,6 +530,7 @@ fn refusal_17() {
     }
     for (second, found) in [(4, 17), (5, 0), (6, 0), (7, 17), (u64::MAX, 17)] {
         assert_eq!(ledger.ask(&o, second, 180, 40).err().unwrap_or(0), found);
+        assert_eq!(ledger.means(&o, second, 180, 40).err().unwrap_or(0), found);
     }
     assert_eq!(ledger.ask(&o, 6, 180, 40).unwrap().records, 1);
     assert_eq!(ledger.ask(&o, 5, 180, 40).unwrap(), SecondTotals::default());
@@ -584,6 +602,34 @@ fn kept_and_totals_of_a_second() {
     let d = put(1, 0x00, 4);
     assert_eq!((d.records, d.origins, d.errors, d.kept), (2, 0, 0, false));
     assert_eq!(d.channels, one(400, 1_600, 0, 4));
+}
+
+#[test]
+fn means_of_a_second() {
+    let both = |mean, mean_square| Ok([Means { mean, mean_square }; 4]);
+    for rate in RATES {
+        let (rows, seconds) = (180, 40);
+        let o = open(&plain(rate.hz, 1, 0), 0, 2, 9, rows, seconds).unwrap();
+        let mut ledger = Ledger::default();
+        assert_eq!(ledger.means(&o, 1, rows, seconds), both(0.0, 0.0));
+        // Over the samples held: of one record, of two, of one again where the other moved away, of a replaced one.
+        for (number, ms, sample, found) in [
+            (1, 1_000, 3, both(3.0, 9.0)),
+            (2, 1_999, 0xFC, both(-0.5, 12.5)),
+            (2, 999, 0xFC, both(3.0, 9.0)),
+            (1, 1_500, 0x80, both(-128.0, 16_384.0)),
+        ] {
+            let mut r = plain(rate.hz, number, ms);
+            r[80..2 * rate.n as usize].fill(sample);
+            ledger.put(&o, &r, rows, seconds).unwrap();
+            assert_eq!(ledger.means(&o, 1, rows, seconds), found);
+        }
+        assert_eq!(ledger.means(&o, 0, rows, seconds), both(-4.0, 16.0));
+        // 13 before 14 before 17.
+        assert_eq!(ledger.means(&Opening { tape: 0, ..o.clone() }, 2, rows, 39), Err(13));
+        assert_eq!(ledger.means(&o, 2, rows, 39), Err(14));
+        assert_eq!(ledger.means(&o, 2, rows, seconds), Err(17));
+    }
 }
 
 #[test]

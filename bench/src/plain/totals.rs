@@ -1,4 +1,7 @@
-//! Totals of the four channels over a stretch of samples. 01: "The book".
+//! Totals of the four channels of a record. 01: "The book". It is the work of the library's call: acceptance, then one pass over the
+//! record's own stretch of samples.
+
+use super::header::{accept, HEADER};
 
 #[derive(Clone, Copy, Debug, Default, PartialEq, Eq)]
 pub struct Total {
@@ -8,14 +11,12 @@ pub struct Total {
     pub greatest: i8,
 }
 
-/// One pass over a stretch of samples, four bytes a set.
+/// Four bytes a set of samples, of which an accepted record has 100 or more.
 #[inline(never)]
-pub fn totals(stretch: &[u8]) -> [Total; 4] {
-    if stretch.len() < 4 {
-        return Default::default();
-    }
+pub fn totals(record: &[u8]) -> Result<[Total; 4], u8> {
+    let count = accept(record)?;
     let mut totals = [Total { sum: 0, squares: 0, least: i8::MAX, greatest: i8::MIN }; 4];
-    for set in stretch.chunks_exact(4) {
+    for set in record[HEADER..HEADER + 4 * count].chunks_exact(4) {
         for (total, &byte) in totals.iter_mut().zip(set) {
             let sample = byte as i8;
             total.sum += i64::from(sample);
@@ -24,5 +25,5 @@ pub fn totals(stretch: &[u8]) -> [Total; 4] {
             total.greatest = total.greatest.max(sample);
         }
     }
-    totals
+    Ok(totals)
 }

@@ -1,9 +1,4 @@
 //! The differential tests: the library against the independent second program, on generated inputs.
-//!
-//!     differential [SEED] [CASES]
-//!
-//! A case is one compared call. It exits with 1 at the first difference, and where an outcome of a call was never hit; the latter
-//! is not judged of fewer cases than the default.
 
 use compare::run::Run;
 use compare::{index, records, texts};
@@ -12,8 +7,16 @@ use std::process::ExitCode;
 const SEED: u64 = 1985;
 const CASES: u64 = 1_000_000;
 
+const USAGE: &str = "\
+usage: tests/differential.sh [SEED] [CASES]
+
+Compares the library with the independent second program, on inputs generated from the seed (1985); a case is one compared call
+(1000000 of them). It prints how often each outcome of each call was met, and fails at the first difference. It also fails where an
+outcome was never met, but only at the default number of cases or more: with fewer, rare outcomes are missed by chance, so they are
+named and not judged.";
+
 /// The calls outside histories.
-const CALLS: [fn(&mut Run); 22] = [
+const CALLS: [fn(&mut Run); 16] = [
     records::accept,
     records::read_header,
     records::write_header,
@@ -23,29 +26,28 @@ const CALLS: [fn(&mut Run); 22] = [
     records::write_samples,
     records::sample_time,
     records::phases,
+    records::totals,
     records::segment,
     records::segment,
     records::step,
-    records::first,
-    records::record_at,
-    records::totals,
-    records::means,
     index::open_any,
     texts::record_line,
     texts::list,
-    texts::header_line,
-    texts::columns_line,
-    texts::refused_line,
 ];
 
 fn main() -> ExitCode {
-    let given: Result<Vec<u64>, _> = std::env::args().skip(1).map(|argument| argument.parse()).collect();
+    let given: Vec<String> = std::env::args().skip(1).collect();
+    if given == ["--help"] {
+        println!("{USAGE}");
+        return ExitCode::SUCCESS;
+    }
+    let given: Result<Vec<u64>, _> = given.iter().map(|argument| argument.parse()).collect();
     let (seed, cases) = match given.as_deref() {
         Ok([]) => (SEED, CASES),
         Ok([seed]) => (*seed, CASES),
         Ok([seed, cases]) => (*seed, *cases),
         _ => {
-            eprintln!("usage: differential [SEED] [CASES]");
+            eprintln!("{USAGE}");
             return ExitCode::FAILURE;
         }
     };
@@ -55,13 +57,15 @@ fn main() -> ExitCode {
         CALLS.iter().for_each(|call| (0..3).for_each(|_| call(&mut run)));
         index::history(&mut run);
     }
-    let unhit = run.report();
+    let unmet = run.report();
     println!("{} cases, no difference", run.cases);
-    if cases < CASES {
-        println!("fewer than {CASES} cases: not judged whether every outcome was hit");
-    } else if !unhit.is_empty() {
-        println!("NEVER HIT: {}", unhit.join("; "));
+    if unmet.is_empty() {
+        return ExitCode::SUCCESS;
+    }
+    println!("NEVER MET: {}", unmet.join("; "));
+    if cases >= CASES {
         return ExitCode::FAILURE;
     }
+    println!("fewer than {CASES} cases: that is not judged");
     ExitCode::SUCCESS
 }
