@@ -4,7 +4,10 @@ use mathlib.Core.Path.{_≡_, ap, sym, _∙_}
 use mathlib.Core.Bool.{Bool}
 use Rattle.record.specs.Answer.{refused, unless}
 use Rattle.record.proofs.Refusals.{refused-some}
-use Rattle.odr.specs.Out.{told}
+use Rattle.listing.specs.declared.ListAnswer.{ListAnswer}
+use Rattle.listing.specs.declared.ListAnswer.the-variants as ListAnswer
+use Rattle.listing.specs.Shown.{shownList}
+use Rattle.odr.specs.Out.{told, textOut}
 
 -- the case r of what a call gave, s
 pub in-case : {S A : Type 0} (shown : S → A) {s r : S} {a : A} → shown s ≡ a → s ≡ r → shown r ≡ a
@@ -13,3 +16,8 @@ in-case shown e is = ap shown (sym is) ∙ e
 -- a refusal's number is not 0, so that the struct gives no value
 pub told-refused : {A : Type 0} (n : ℕ) (empty v : A) {x : A} {m : ℕ} → refused x m ≡ unless n empty v → told m x ≡ unless n empty v
 told-refused {A} n empty v {x} {m} p = ap (λ (t : Bool). record { number = m; value = x; given = t }) (refused-some n empty v x m p) ∙ p
+
+-- a text that was written, or not
+pub text-told : (n v : ℕ) (a : ListAnswer) → shownList a ≡ unless n 0 v → told (textOut a .refusal) (textOut a .length) ≡ unless n 0 v
+text-told n v (ListAnswer.Length m) p = p
+text-told n v (ListAnswer.Refused m) p = told-refused n 0 v p

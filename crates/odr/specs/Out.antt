@@ -13,7 +13,10 @@ use Rattle.record.specs.Answer.{Answer}
 use Rattle.reel.specs.Reel.{Found, accepted, finished, refused}
 use Rattle.odr.specs.declared.PhasesOut.{PhasesOut}
 use Rattle.odr.specs.declared.SegmentOut.{SegmentOut}
+use Rattle.listing.specs.declared.ListAnswer.{ListAnswer}
+use Rattle.listing.specs.declared.ListAnswer.the-variants as ListAnswer
 use Rattle.odr.specs.declared.StepOut.{StepOut}
+use Rattle.odr.specs.declared.TextOut.{TextOut}
 
 -- a struct with a refusal's number and a value: the value is given where the number is 0
 abbrev pub told : {A : Type 0} → ℕ → A → Answer A
@@ -61,3 +64,8 @@ pub record StepTold (r : StepOut) (f : Found) : Type 0 where
   pub number : r .answer ≡ stepNumber f
   pub start : r .start ≡ stepStart f
   pub end : r .end ≡ stepEnd f
+
+-- a text's length, or the refusal
+abbrev pub textOut : ListAnswer → TextOut
+textOut (ListAnswer.Length n) = record { refusal = 0; length = n }
+textOut (ListAnswer.Refused n) = record { refusal = n; length = 0 }

@@ -19,7 +19,7 @@ ghost use Rattle.index_ask.specs.Shown.{shownSecond};
 ghost use Rattle.index_means.specs.Means.{meansAnswer};
 ghost use Rattle.index_means.specs.Shown.{shownMeans};
 ghost use Rattle.listing.specs.Listing.{lineAnswer, lineAfter, listAnswer, listAfter};
-ghost use Rattle.odr.specs.Out.{told, valueOr, longestSegment, PhasesTold, SegmentTold, StepTold};
+ghost use Rattle.odr.specs.Out.{told, valueOr, longestSegment, PhasesTold, SegmentTold, StepTold, textOut};
 use index_ask::SecondAnswer;
 use index_ask::TestAnswer;
 use index_means::MeansAnswer;
@@ -388,15 +388,22 @@ pub extern "C" fn odr_test(opening: Opening, rows: &[u32], seconds: &[u32]) -> T
 
 // ## Text
 
+// The length of a text that was written, or the refusal.
+fn text_out(answer: ListAnswer) -> TextOut
+    ensures { λ r. ⌜ r ≡ textOut answer ⌝ }
+{
+    match answer {
+        ListAnswer::Length(length) => TextOut { refusal: 0, length },
+        ListAnswer::Refused(refusal) => TextOut { refusal, length: 0 },
+    }
+}
+
 #[no_mangle]
 pub extern "C" fn odr_record_line(bytes: &[u8], text: &mut [u8]) -> TextOut
     ensures { λ r. ⌜ told (r .refusal) (r .length) ≡ lineAnswer (now (bytes .entry)) (now (text .entry)) ⌝ }
     ensures { λ _. ⌜ now (text .exit) ≡ lineAfter (now (bytes .entry)) (now (text .entry)) ⌝ }
 {
-    match listing::record_line(bytes, text) {
-        ListAnswer::Length(length) => TextOut { refusal: 0, length },
-        ListAnswer::Refused(refusal) => TextOut { refusal, length: 0 },
-    }
+    text_out(listing::record_line(bytes, text))
 }
 
 #[no_mangle]
@@ -404,8 +411,5 @@ pub extern "C" fn odr_list(input: &[u8], text: &mut [u8]) -> TextOut
     ensures { λ r. ⌜ told (r .refusal) (r .length) ≡ listAnswer (now (input .entry)) (now (text .entry)) ⌝ }
     ensures { λ _. ⌜ now (text .exit) ≡ listAfter (now (input .entry)) (now (text .entry)) ⌝ }
 {
-    match listing::list_reel(input, text) {
-        ListAnswer::Length(length) => TextOut { refusal: 0, length },
-        ListAnswer::Refused(refusal) => TextOut { refusal, length: 0 },
-    }
+    text_out(listing::list_reel(input, text))
 }

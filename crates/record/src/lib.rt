@@ -209,9 +209,9 @@ pub fn read_header(bytes: &[u8]) -> HeaderAnswer
 fn judge_writing(bytes: usize, h: Header) -> u8
     ensures { λ r. ⌜ r ≡ writeRefusal bytes h ⌝ }
 {
-    let n = judge(bytes, h, header::decimals_fit(h));
-    if n != 0 {
-        return n;
+    let refusal = judge(bytes, h, header::decimals_fit(h));
+    if refusal != 0 {
+        return refusal;
     }
     if header::binaries_fit(h) {
         return 0;

@@ -1,0 +1,86 @@
+#!/usr/bin/env python3
+"""An audit of the repository's own rules, read from its text and from the logs of the last `rt ci`.
+
+    audit.py
+
+- Every public function of a library has a promise (`ensures`) and none has a `requires`.
+- Every must-fail edit says in its first line which wrong program it is, and edits no proof.
+- docs/TRACE.md names every must-fail edit, and no edit that is not there.
+- No edit was refused only because the proof no longer fits the code's shape: such a refusal shows nothing. (Read from
+  target/must-fail; where no edit was tried yet, that is said and not judged.)
+
+It exits with 1 where a rule is broken.
+"""
+import pathlib
+import re
+import sys
+
+ROOT = pathlib.Path(__file__).resolve().parent.parent
+SHAPE = re.compile(r"can be named from here|parse error|unexpected token|not in scope|unknown (name|module|field)")
+faults = []
+
+
+def public_functions():
+    """Each public function's name, and its clauses: what stands before its body."""
+    for source in sorted(ROOT.glob("crates/*/src/lib.rt")):
+        text = source.read_text(encoding="utf-8")
+        for found in re.finditer(r"\bpub (?:extern \"C\" )?fn (\w+)(.*?)\n\s*\{\n", text, re.S):
+            yield f"{source.parent.parent.name}::{found[1]}", found[2]
+
+
+def check_promises():
+    count = 0
+    for name, clauses in public_functions():
+        count += 1
+        if "ensures" not in clauses:
+            faults.append(f"{name} has no promise")
+        if "requires" in clauses:
+            faults.append(f"{name} has a requires")
+    return count
+
+
+def first_error(log):
+    return next((line for line in log.splitlines() if ": error:" in line), "")
+
+
+def check_edits():
+    edits = sorted(ROOT.glob("crates/*/must-fail/*.edit"))
+    logs = 0
+    for edit in edits:
+        name = f"{edit.parent.parent.name}/{edit.stem}"
+        lines = edit.read_text(encoding="utf-8").splitlines()
+        if not lines[0].startswith("# "):
+            faults.append(f"{name} does not say which wrong program it is")
+        if any(line.startswith("file: proofs/") for line in lines):
+            faults.append(f"{name} edits a proof")
+        log = ROOT / "target" / "must-fail" / name / ".log"
+        if log.is_file():
+            logs += 1
+            if SHAPE.search(first_error(log.read_text(encoding="utf-8", errors="replace"))):
+                faults.append(f"{name} is refused for its shape only")
+    return edits, logs
+
+
+def check_trace(edits):
+    crates = {path.name for path in ROOT.glob("crates/*")}
+    trace = (ROOT / "docs" / "TRACE.md").read_text(encoding="utf-8")
+    named = {word for word in re.findall(r"\b\w+/\w+\b", trace) if word.split("/")[0] in crates}
+    there = {f"{edit.parent.parent.name}/{edit.stem}" for edit in edits}
+    files = {word for word in named if (ROOT / "crates" / word).exists()}
+    faults.extend(f"docs/TRACE.md names {name}, which is not there" for name in sorted(named - there - files))
+    faults.extend(f"docs/TRACE.md does not name {name}" for name in sorted(there - named))
+
+
+def main():
+    functions = check_promises()
+    edits, logs = check_edits()
+    check_trace(edits)
+    for fault in faults:
+        print(f"tests/audit.py: {fault}", file=sys.stderr)
+    judged = f"{logs} refusals read" if logs else "no edit was tried yet, so no refusal was read"
+    print(f"tests/audit.py: {functions} public functions, {len(edits)} must-fail edits, {judged}: {len(faults)} faults")
+    return 1 if faults else 0
+
+
+if __name__ == "__main__":
+    sys.exit(main())
