@@ -20,9 +20,8 @@ use Rattle.index_model.specs.History.{after, ledgerAfter}
 use Rattle.index_model.proofs.Sound.{SoundLedger, perRecord}
 use Rattle.index_model.proofs.Decoded.{second-sound, joined-length}
 use Rattle.index_model.proofs.Judging.{ask-answered}
-use Rattle.index_model.proofs.Steps.{after-agrees}
-use Rattle.index_model.proofs.Opened.{regular-empty, fine, returned, opened-agrees}
-use Rattle.index_model.proofs.Demand3.{opened}
+use Rattle.index_model.proofs.Opened.{returned}
+use Rattle.index_model.proofs.Demand3.{opened, fits, ended}
 use Rattle.index_means.specs.Means.{meansOf, noMeansEach, secondMeans, meansBy, meansAnswer}
 use Rattle.index_means.specs.OfLedger.{ledgerMeans, ledgerMeansAnswer}
 
@@ -62,8 +61,7 @@ module _ (pattern : List ℕ) (F C R : ℕ) (rows seconds : List ℕ) (none : op
 
       proved : ByLedger o
       proved =
-          let begin = opened pattern F C R rows seconds in
-          let fits = fine pattern F C R rows seconds none in
-          let end = after-agrees o fits calls noRecords begin (regular-empty o) (opened-agrees pattern F C R rows seconds none) in
+          let end = ended pattern F C R rows seconds none calls in
           let L = ledgerAfter o calls noRecords in
-          ap (meansBy o) (ask-answered o fits L (after o calls begin) (end .0) (end .1) s) ∙ answered o L (end .0 .sound) s
+          ap (meansBy o) (ask-answered o (fits pattern F C R rows seconds none calls) L (after o calls (opened pattern F C R rows seconds)) (end .0) (end .1) s)
+          ∙ answered o L (end .0 .sound) s

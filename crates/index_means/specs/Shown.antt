@@ -1,9 +1,8 @@
 -- The number and the values of 01 for the code's answer.
 use mathlib.Core.List.{List}
-use lib.Dec.{eqb}
-use Rattle.record.specs.Answer.{Answer}
+use Rattle.record.specs.Answer.{Answer, told}
 use Rattle.index_means.specs.declared.Means.{Means}
 use Rattle.index_means.specs.declared.MeansAnswer.{MeansAnswer}
 
 abbrev pub shownMeans : MeansAnswer → Answer (List Means)
-shownMeans r = record { number = r .refusal; value = r .channels; given = eqb (r .refusal) 0 }
+shownMeans r = told (r .refusal) (r .channels)

@@ -3,15 +3,16 @@
 -- as opening or the call before it left them. The ledger is told by the calls alone. Assumes nothing.
 use Prim.Native.Nat.{ℕ}
 use mathlib.Core.Path.{_≡_, sym, subst}
-use mathlib.Core.Bool.{true}
+use mathlib.Core.Bool.{true, false, _||_}
 use mathlib.Core.List.{List}
 use Rattle.record.specs.Answer.{accepted}
 use Rattle.index_model.specs.declared.Opening.{Opening}
 use Rattle.index_model.specs.Cells.{blockAt}
-use Rattle.index_model.specs.Opening.{inWindow, placeOf, openingOf, openRefusal, openAnswer, openRows, openSeconds}
+use Rattle.index_model.specs.Opening.{limitsWrong, heldWrong, inWindow, placeOf, openingOf, openRefusal, openAnswer, openRows, openSeconds}
 use Rattle.index_model.specs.Calls.{secondShown, isConsistent, testAnswer}
-use Rattle.index_model.specs.Ledger.{noRecords, ledgerSecond, Call}
+use Rattle.index_model.specs.Ledger.{Ledger, noRecords, ledgerSecond, Call}
 use Rattle.index_model.specs.History.{Cells, after, replies, ledgerAfter, ledgerReplies, EachAlters}
+use Rattle.index_model.proofs.Agreement.{Regular, Agree}
 use Rattle.index_model.proofs.Judging.{shown-is, consistent, test-answered}
 use Rattle.index_model.proofs.Steps.{after-agrees, all-answered, each-alters}
 use Rattle.index_model.proofs.Opened.{regular-empty, fine, returned, opened-agrees}
@@ -34,25 +35,34 @@ opened pattern F C R rows seconds =
     record { rows = openRows pattern F C R rows seconds; seconds = openSeconds pattern F C R rows seconds }
 
 module _ (pattern : List ℕ) (F C R : ℕ) (rows seconds : List ℕ) (none : openRefusal pattern F C R rows seconds ≡ 0) (calls : List Call) where
+  abbrev o : Opening
+  o = openingOf pattern F C R
+
   abbrev start : Cells
   start = opened pattern F C R rows seconds
+
+  abbrev ledger : Ledger
+  ledger = ledgerAfter o calls noRecords
+
+  -- no later call refuses the opening, and after the calls the cells agree with the ledger
+  pub fits : limitsWrong (openingOf pattern F C R) || heldWrong (openingOf pattern F C R) ≡ false
+  fits = fine pattern F C R rows seconds none
+
+  pub ended : Regular (openingOf pattern F C R) (ledgerAfter (openingOf pattern F C R) calls noRecords)
+      × Agree (openingOf pattern F C R) (ledgerAfter (openingOf pattern F C R) calls noRecords) (after (openingOf pattern F C R) calls (opened pattern F C R rows seconds))
+  ended = after-agrees o fits calls noRecords start (regular-empty o) (opened-agrees pattern F C R rows seconds none)
 
   pub demand3 : Demand3 (openAnswer pattern F C R rows seconds .value) (opened pattern F C R rows seconds) calls
   demand3 = subst (λ (o : Opening). Demand3 o start calls) (sym (returned pattern F C R rows seconds none)) proved
     where
-      o : Opening
-      o = openingOf pattern F C R
-
       proved : Demand3 o start calls
       proved =
-          let fits = fine pattern F C R rows seconds none in
           let empty = regular-empty o in
           let agree = opened-agrees pattern F C R rows seconds none in
-          let end = after-agrees o fits calls noRecords start empty agree in
           record {
             answers = all-answered o fits calls noRecords start empty agree;
-            seconds = shown-is o fits (ledgerAfter o calls noRecords) (after o calls start) (end .0) (end .1);
-            consistent = consistent o fits (ledgerAfter o calls noRecords) (after o calls start) (end .0) (end .1);
+            seconds = shown-is o fits ledger (after o calls start) (ended .0) (ended .1);
+            consistent = consistent o fits ledger (after o calls start) (ended .0) (ended .1);
             alterations = each-alters o fits calls noRecords start empty agree;
           }
 
@@ -63,13 +73,6 @@ module _ (pattern : List ℕ) (F C R : ℕ) (rows seconds : List ℕ) (none : op
       testAnswer o (end .rows) (end .seconds) ≡ accepted true
 
   pub test-says-yes : SaysYes (openAnswer pattern F C R rows seconds .value)
-  test-says-yes = subst SaysYes (sym (returned pattern F C R rows seconds none)) proved
-    where
-      o : Opening
-      o = openingOf pattern F C R
-
-      proved : SaysYes o
-      proved =
-          let fits = fine pattern F C R rows seconds none in
-          let end = after-agrees o fits calls noRecords start (regular-empty o) (opened-agrees pattern F C R rows seconds none) in
-          test-answered o fits (ledgerAfter o calls noRecords) (after o calls start) (end .0) (end .1)
+  test-says-yes =
+      subst SaysYes (sym (returned pattern F C R rows seconds none))
+      (test-answered o fits ledger (after o calls start) (ended .0) (ended .1))

@@ -10,7 +10,7 @@ use Prim.Native.Nat.{ℕ}
 use mathlib.Core.Path.{_≡_, ap, sym, _∙_, subst}
 use mathlib.Core.Bool.{true}
 use mathlib.Core.List.{List}
-use Rattle.record.specs.Answer.{accepted}
+use Rattle.record.specs.Answer.{accepted, told}
 use Rattle.record.proofs.Refusals.{given-value}
 use Rattle.index_model.specs.declared.Opening.{Opening}
 use Rattle.index_model.specs.Opening.{openingOf, noOpening, openRefusal, openAnswer}
@@ -23,7 +23,6 @@ use Rattle.index_means.specs.Means.{meansAnswer}
 use Rattle.index_means.specs.OfLedger.{ledgerMeansAnswer}
 use Rattle.index_means.proofs.History.{ByLedger, means-of-history}
 use Rattle.odr.specs.declared.OpenOut.{OpenOut}
-use Rattle.odr.specs.Out.{told}
 
 module _ (pattern : List ℕ) (F C R : ℕ) (rows seconds : List ℕ)
     (r : OpenOut) (promised : told (r .refusal) (r .opening) ≡ openAnswer pattern F C R rows seconds) (none : r .refusal ≡ 0) (calls : List Call) where

@@ -2,12 +2,15 @@
 use Prim.Native.Nat.{ℕ}
 use mathlib.Core.Path.{_≡_, ap, sym, _∙_}
 use mathlib.Core.Bool.{Bool}
-use Rattle.record.specs.Answer.{refused, unless}
+use mathlib.Core.List.{List}
+use lib.Ieee.{Float}
+use lib.ListN.{getD}
+use Rattle.record.specs.Answer.{Answer, refused, told, unless}
 use Rattle.record.proofs.Refusals.{refused-some}
 use Rattle.listing.specs.declared.ListAnswer.{ListAnswer}
 use Rattle.listing.specs.declared.ListAnswer.the-variants as ListAnswer
 use Rattle.listing.specs.Shown.{shownList}
-use Rattle.odr.specs.Out.{told, textOut}
+use Rattle.odr.specs.Out.{zeroFloat, textOut}
 
 -- the case r of what a call gave, s
 pub in-case : {S A : Type 0} (shown : S → A) {s r : S} {a : A} → shown s ≡ a → s ≡ r → shown r ≡ a
@@ -21,3 +24,11 @@ told-refused {A} n empty v {x} {m} p = ap (λ (t : Bool). record { number = m; v
 pub text-told : (n v : ℕ) (a : ListAnswer) → shownList a ≡ unless n 0 v → told (textOut a .refusal) (textOut a .length) ≡ unless n 0 v
 text-told n v (ListAnswer.Length m) p = p
 text-told n v (ListAnswer.Refused m) p = told-refused n 0 v p
+
+-- two phases, given or not
+module _ {x a : Answer (List Float)} (e : x ≡ a) where
+  pub number-is : x .number ≡ a .number
+  number-is = ap (λ (y : Answer (List Float)). y .number) e
+
+  pub phase-is : (k : ℕ) → getD (x .value) k zeroFloat ≡ getD (a .value) k zeroFloat
+  phase-is k = ap (λ (y : Answer (List Float)). getD (y .value) k zeroFloat) e

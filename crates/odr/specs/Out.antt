@@ -4,7 +4,6 @@ use Prim.Native.Nat.{ℕ}
 use mathlib.Core.Path.{_≡_}
 use mathlib.Core.Bool.{false, cond}
 use mathlib.Core.List.{List}
-use lib.Dec.{eqb}
 use lib.IntN.{pos}
 use lib.Ieee.{Float, fin}
 use lib.ListN.{length, getD}
@@ -17,10 +16,6 @@ use Rattle.listing.specs.declared.ListAnswer.{ListAnswer}
 use Rattle.listing.specs.declared.ListAnswer.the-variants as ListAnswer
 use Rattle.odr.specs.declared.StepOut.{StepOut}
 use Rattle.odr.specs.declared.TextOut.{TextOut}
-
--- a struct with a refusal's number and a value: the value is given where the number is 0
-abbrev pub told : {A : Type 0} → ℕ → A → Answer A
-told n v = record { number = n; value = v; given = eqb n 0 }
 
 -- what lent memory for one value holds after an answer: the value, or what it held beside a refusal
 abbrev pub valueOr : {A : Type 0} → A → Answer A → A

@@ -8,7 +8,7 @@ use lib.Dec.{T, eqb, leb, leb→le}
 use lib.ListN.{getD}
 use Rattle.lists.proofs.Truth.{left, right}
 use borrow.Author.Tests.{eq-eqb, ne-eqb, eqb-true, eqb-false}
-use Rattle.record.specs.Answer.{Answer, accepted, refused, unless}
+use Rattle.record.specs.Answer.{Answer, accepted, refused, told, unless}
 use Rattle.record.specs.Refusal.{Check, _when_, first, _then_}
 
 -- the second refusal counts where the first is none
@@ -25,6 +25,10 @@ then-zero n m e = by-test (eqb n 0) refl e
     by-test : (t : Bool) → eqb n 0 ≡ t → cond t m n ≡ 0 → (n ≡ 0) × (m ≡ 0)
     by-test true a z = (eqb-true n 0 a, z)
     by-test false a z = absurd (eqb-false n 0 a z)
+
+-- a struct with a refusal's number gives no value
+pub told-none : {A : Type 0} (n : ℕ) (empty : A) → 1 ≤ n → told n empty ≡ refused empty n
+told-none {A} n empty above = ap (λ (t : Bool). record { number = n; value = empty; given = t }) (ne-eqb n 0 (λ z. omega (arith, z)))
 
 module _ {A : Type 0} (n : ℕ) (empty v : A) where
   pub unless-none : n ≡ 0 → accepted v ≡ unless n empty v

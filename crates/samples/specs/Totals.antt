@@ -1,8 +1,7 @@
 -- The totals of a record's samples, for each channel. 01: "for each channel sum, sum of squares, least and greatest over all samples".
 use mathlib.Core.List.{List, [], _∷_}
 use Prim.Native.Nat.{ℕ}
-use lib.Dec.{eqb}
-use Rattle.record.specs.Answer.{Answer, unless}
+use Rattle.record.specs.Answer.{Answer, told, unless}
 use Rattle.record.specs.Record.{recordRefusal}
 use Rattle.record.specs.Stretch.{sampleCount, stretchOf}
 use Rattle.totals.specs.declared.Total.{Total}
@@ -19,4 +18,4 @@ totalsAnswer b = unless (recordRefusal b) noTotals (totalsOf (stretchOf b) (samp
 
 -- the number is the field `refusal`, the values are the totals
 abbrev pub shownTotals : TotalsAnswer → Answer (List Total)
-shownTotals r = record { number = r .refusal; value = r .channels; given = eqb (r .refusal) 0 }
+shownTotals r = told (r .refusal) (r .channels)

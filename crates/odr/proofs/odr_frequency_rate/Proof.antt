@@ -3,11 +3,11 @@ use denote.Ref.{now}
 use mathlib.Core.Path.{ap, _∙_}
 use lib.IntN.{ℤ, pos}
 use mir.Facts.{toZ-ofZ}
+use Rattle.record.specs.Answer.{told}
 use Rattle.header.specs.Header.{headerOf}
 use Rattle.record.specs.Record.{recordRefusal}
 use Rattle.record.specs.FrequencyRate.{headerRate, rateAnswer}
 use Rattle.record.specs.Shown.{shownRate}
-use Rattle.odr.specs.Out.{told}
 use Rattle.odr.proofs.Told.{in-case, told-refused}
 use borrow.Author.Needs.{needs}
 use Rattle.odr.proofs.odr_frequency_rate.Statement.{statement}

@@ -1,13 +1,7 @@
 -- The two phases in their case, or the refusal. Assumes nothing.
-use mathlib.Core.Path.{_≡_, ap}
-use mathlib.Core.List.{List}
-use lib.Ieee.{Float, ofBits}
-use lib.ListN.{getD}
-use Rattle.record.specs.Answer.{Answer}
+use lib.Ieee.{ofBits}
 use Rattle.times.specs.Shown.{shownPhases}
-use Rattle.odr.specs.declared.PhasesOut.{PhasesOut}
-use Rattle.odr.specs.Out.{zeroFloat, PhasesTold}
-use Rattle.odr.proofs.Told.{in-case}
+use Rattle.odr.proofs.Told.{in-case, number-is, phase-is}
 use borrow.Author.Needs.{needs}
 use Rattle.odr.proofs.odr_phases.Statement.{statement}
 use Rattle.odr.proofs.odr_phases.Tie as tie
@@ -24,21 +18,13 @@ enum-known-refusal c = search needs
 returns : tie.Need-returns
 returns c =
     let e = in-case shownPhases (c .before .before .before .phases .ensures .0) (c .before .first .given .1) in
-    record {
-      number = ap (λ (a : Answer (List Float)). a .number) e;
-      first = ap (λ (a : Answer (List Float)). getD (a .value) 0 zeroFloat) e;
-      second = ap (λ (a : Answer (List Float)). getD (a .value) 1 zeroFloat) e;
-    }
+    record { number = number-is e; first = phase-is e 0; second = phase-is e 1 }
 
 returns-2 : tie.Need-returns-2
 unfolding ofBits
 returns-2 c =
     let e = in-case shownPhases (c .before .before .before .phases .ensures .0) (c .before .refusal .given .1) in
-    record {
-      number = ap (λ (a : Answer (List Float)). a .number) e;
-      first = ap (λ (a : Answer (List Float)). getD (a .value) 0 zeroFloat) e;
-      second = ap (λ (a : Answer (List Float)). getD (a .value) 1 zeroFloat) e;
-    }
+    record { number = number-is e; first = phase-is e 0; second = phase-is e 1 }
 
 pub odr-phases-spec : {M : Type 1} → statement M
 odr-phases-spec =

@@ -2,9 +2,9 @@
 use mathlib.Core.Path.{ap, _∙_}
 use denote.Ref.{now}
 use lib.ListN.{length}
+use Rattle.record.specs.Answer.{told}
 use Rattle.listing.specs.Listing.{recordText, lineRefusal, textAnswer}
 use Rattle.odr.specs.declared.TextOut.{TextOut}
-use Rattle.odr.specs.Out.{told}
 use Rattle.odr.proofs.Told.{text-told}
 use borrow.Author.Needs.{needs}
 use Rattle.odr.proofs.odr_record_line.Statement.{statement}
