@@ -1,13 +1,13 @@
 #!/usr/bin/env python3
 """An audit of the repository's own rules, read from its text and from the logs of the last `rt ci`.
 
-    audit.py
+    audit.py [--all]
 
 - Every public function of a library has a promise (`ensures`) and none has a `requires`.
 - Every must-fail edit says in its first line which wrong program it is, and edits no proof.
 - docs/TRACE.md names every must-fail edit, and no edit that is not there.
-- No edit was refused only because the proof no longer fits the code's shape: such a refusal shows nothing. (Read from
-  target/must-fail; where no edit was tried yet, that is said and not judged.)
+- The log of every edit that was tried, in target/must-fail, ends in the prover's refusal, and that was not given only because the
+  proof no longer fits the code's shape: such a refusal shows nothing. With --all, as in the gate, every edit must have been tried.
 
 It exits with 1 where a rule is broken.
 """
@@ -43,6 +43,13 @@ def first_error(log):
     return next((line for line in log.splitlines() if ": error:" in line), "")
 
 
+def check_log(name, log):
+    if not re.search(r"^logic=not-proved", log, re.M):
+        faults.append(f"{name}: the log has no refusal of the prover's")
+    elif SHAPE.search(first_error(log)):
+        faults.append(f"{name} is refused for its shape only")
+
+
 def check_edits():
     edits = sorted(ROOT.glob("crates/*/must-fail/*.edit"))
     logs = 0
@@ -56,8 +63,9 @@ def check_edits():
         log = ROOT / "target" / "must-fail" / name / ".log"
         if log.is_file():
             logs += 1
-            if SHAPE.search(first_error(log.read_text(encoding="utf-8", errors="replace"))):
-                faults.append(f"{name} is refused for its shape only")
+            check_log(name, log.read_text(encoding="utf-8", errors="replace"))
+    if "--all" in sys.argv and logs < len(edits):
+        faults.append(f"only {logs} of {len(edits)} must-fail edits were tried")
     return edits, logs
 
 
@@ -77,8 +85,7 @@ def main():
     check_trace(edits)
     for fault in faults:
         print(f"tests/audit.py: {fault}", file=sys.stderr)
-    judged = f"{logs} refusals read" if logs else "no edit was tried yet, so no refusal was read"
-    print(f"tests/audit.py: {functions} public functions, {len(edits)} must-fail edits, {judged}: {len(faults)} faults")
+    print(f"tests/audit.py: {functions} public functions, {len(edits)} must-fail edits, {logs} refusals read: {len(faults)} faults")
     return 1 if faults else 0
 
 
