@@ -1,4 +1,4 @@
--- The laws of binary coded decimal, over the number of digits: each direction undoes the other. Assumes nothing.
+-- The laws of binary coded decimalValue, over the number of digits: each direction undoes the other. Assumes nothing.
 use Prim.Native.Nat.{ℕ, zero, suc, _+_, _-_, _*_, _/_, _%_, _^_, _≤_, _<_}
 use mathlib.Core.Path.{_≡_, ap, sym, _∙_, subst}
 use mathlib.Core.Bool.{true, _&&_}
@@ -6,17 +6,17 @@ use native.Mathlib.Nat.{pow-suc, pow-le-pow-right, div-one}
 use native.Mathlib.Omega.{arith}
 use lib.Pow.{shr-shr}
 use lib.Dec.{T, leb, leb→le, le→leb, lit<, lit≤}
-use Rattle.bits.specs.Decimal.{decimal, digits, coded}
+use Rattle.bits.specs.Decimal.{decimalValue, digits, coded}
 use Rattle.lists.proofs.Truth.{left, right, both}
 
 -- any digits: room for the sums
-pub decimal-room : (n v : ℕ) → decimal n v + 2 ≤ 2 * 10 ^ n
-unfolding decimal
+pub decimal-room : (n v : ℕ) → decimalValue n v + 2 ≤ 2 * 10 ^ n
+unfolding decimalValue
 decimal-room zero v = lit≤ tt
 decimal-room (suc n) v = rw pow-suc (omega (arith, decimal-room n (v / 16)))
 
-pub decimal-lt : (n v : ℕ) → T (digits n v) → decimal n v < 10 ^ n
-unfolding decimal digits
+pub decimal-lt : (n v : ℕ) → T (digits n v) → decimalValue n v < 10 ^ n
+unfolding decimalValue digits
 decimal-lt zero v t = lit< tt
 decimal-lt (suc n) v t =
     rw pow-suc
@@ -43,25 +43,25 @@ coded-digits (suc n) x =
     (subst (λ (z : ℕ). T (digits n z)) (sym (high n x)) (coded-digits n (x / 10)))
     (le→leb (coded (suc n) x % 16) 9 (omega (arith, low n x)))
 
-pub decimal-coded : (n x : ℕ) → x < 10 ^ n → decimal n (coded n x) ≡ x
-unfolding decimal
+pub decimal-coded : (n x : ℕ) → x < 10 ^ n → decimalValue n (coded n x) ≡ x
+unfolding decimalValue
 decimal-coded zero x h = omega arith
 decimal-coded (suc n) x h =
     let p : 10 ^ suc n ≡ 10 ^ n * 10 = pow-suc 10 n in
-    let e : decimal n (coded n (x / 10)) ≡ x / 10 = decimal-coded n (x / 10) (omega (arith, p)) in
-    let f : decimal n (coded (suc n) x / 16) ≡ decimal n (coded n (x / 10)) = ap (decimal n) (high n x) in
+    let e : decimalValue n (coded n (x / 10)) ≡ x / 10 = decimal-coded n (x / 10) (omega (arith, p)) in
+    let f : decimalValue n (coded (suc n) x / 16) ≡ decimalValue n (coded n (x / 10)) = ap (decimalValue n) (high n x) in
     omega (arith, e, f, low n x)
 
-pub coded-decimal : (n v : ℕ) → v < 16 ^ n → T (digits n v) → coded n (decimal n v) ≡ v
-unfolding decimal digits coded
+pub coded-decimal : (n v : ℕ) → v < 16 ^ n → T (digits n v) → coded n (decimalValue n v) ≡ v
+unfolding decimalValue digits coded
 coded-decimal zero v h t = omega arith
 coded-decimal (suc n) v h t =
     let p : 16 ^ suc n ≡ 16 ^ n * 16 = pow-suc 16 n in
     let d : v % 16 ≤ 9 = leb→le (v % 16) 9 (right (digits n (v / 16)) (leb (v % 16) 9) t) in
-    let q : (decimal n (v / 16) * 10 + v % 16) / 10 ≡ decimal n (v / 16) = omega arith in
-    let r : (decimal n (v / 16) * 10 + v % 16) % 10 ≡ v % 16 = omega arith in
-    let e : coded n (decimal n (v / 16)) ≡ v / 16 = coded-decimal n (v / 16) (omega (arith, p)) (left (digits n (v / 16)) (leb (v % 16) 9) t) in
-    let f : coded n ((decimal n (v / 16) * 10 + v % 16) / 10) ≡ coded n (decimal n (v / 16)) = ap (coded n) q in
+    let q : (decimalValue n (v / 16) * 10 + v % 16) / 10 ≡ decimalValue n (v / 16) = omega arith in
+    let r : (decimalValue n (v / 16) * 10 + v % 16) % 10 ≡ v % 16 = omega arith in
+    let e : coded n (decimalValue n (v / 16)) ≡ v / 16 = coded-decimal n (v / 16) (omega (arith, p)) (left (digits n (v / 16)) (leb (v % 16) 9) t) in
+    let f : coded n ((decimalValue n (v / 16) * 10 + v % 16) / 10) ≡ coded n (decimalValue n (v / 16)) = ap (coded n) q in
     omega (arith, e, f, r)
 
 -- ## the steps of the loops, which go down from the most significant digit
@@ -77,11 +77,11 @@ module _ (n c l : ℕ) (h : 0 < l) (q : l ≤ n) where
   next : n - (l - 1) ≡ suc (n - l)
   next = omega arith
 
-  pub decimal-down : decimal (n - l) (c / 2 ^ (4 * l)) * 10 + c / 2 ^ (4 * (l - 1)) % 16 ≡ decimal (n - (l - 1)) (c / 2 ^ (4 * (l - 1)))
-  unfolding decimal
+  pub decimal-down : decimalValue (n - l) (c / 2 ^ (4 * l)) * 10 + c / 2 ^ (4 * (l - 1)) % 16 ≡ decimalValue (n - (l - 1)) (c / 2 ^ (4 * (l - 1)))
+  unfolding decimalValue
   decimal-down =
       let x : ℕ = c / 2 ^ (4 * (l - 1)) in
-      ap (λ (z : ℕ). decimal (n - l) z * 10 + x % 16) (sym (above c l h)) ∙ ap (λ (m : ℕ). decimal m x) (sym next)
+      ap (λ (z : ℕ). decimalValue (n - l) z * 10 + x % 16) (sym (above c l h)) ∙ ap (λ (m : ℕ). decimalValue m x) (sym next)
 
   pub digits-down : digits (n - l) (c / 2 ^ (4 * l)) && leb (c / 2 ^ (4 * (l - 1)) % 16) 9 ≡ digits (n - (l - 1)) (c / 2 ^ (4 * (l - 1)))
   unfolding digits
@@ -90,18 +90,18 @@ module _ (n c l : ℕ) (h : 0 < l) (q : l ≤ n) where
       ap (λ (z : ℕ). digits (n - l) z && leb (x % 16) 9) (sym (above c l h)) ∙ ap (λ (m : ℕ). digits m x) (sym next)
 
 -- before the first digit
-pub decimal-none : (n l c : ℕ) → l ≡ n → 0 ≡ decimal (n - l) c
-unfolding decimal
-decimal-none n l c e = let z : n - l ≡ 0 = omega arith in sym (ap (λ (m : ℕ). decimal m c) z)
+pub decimal-none : (n l c : ℕ) → l ≡ n → 0 ≡ decimalValue (n - l) c
+unfolding decimalValue
+decimal-none n l c e = let z : n - l ≡ 0 = omega arith in sym (ap (λ (m : ℕ). decimalValue m c) z)
 
 pub digits-none : (n l c : ℕ) → l ≡ n → true ≡ digits (n - l) c
 unfolding digits
 digits-none n l c e = let z : n - l ≡ 0 = omega arith in sym (ap (λ (m : ℕ). digits m c) z)
 
 -- after the last
-pub decimal-whole : (n l c : ℕ) → l ≡ 0 → decimal (n - l) (c / 2 ^ (4 * l)) ≡ decimal n c
+pub decimal-whole : (n l c : ℕ) → l ≡ 0 → decimalValue (n - l) (c / 2 ^ (4 * l)) ≡ decimalValue n c
 decimal-whole n l c e = let m : n - l ≡ n = omega arith in
-    ap (λ (k : ℕ). decimal k (c / 2 ^ (4 * l))) m ∙ ap (λ (k : ℕ). decimal n (c / 2 ^ (4 * k))) e ∙ ap (decimal n) (whole c)
+    ap (λ (k : ℕ). decimalValue k (c / 2 ^ (4 * l))) m ∙ ap (λ (k : ℕ). decimalValue n (c / 2 ^ (4 * k))) e ∙ ap (decimalValue n) (whole c)
 
 pub digits-whole : (n l c : ℕ) → l ≡ 0 → digits (n - l) (c / 2 ^ (4 * l)) ≡ digits n c
 digits-whole n l c e = let m : n - l ≡ n = omega arith in
@@ -118,7 +118,7 @@ unfolding coded
 coded-step n x h = let e : n ≡ suc (n - 1) = omega arith in ap (λ (z : ℕ). coded z x) e
 
 -- room for 13 digits before the last
-pub decimal-small : (n c : ℕ) → n ≤ 13 → decimal n c < 2 * 10 ^ 13
+pub decimal-small : (n c : ℕ) → n ≤ 13 → decimalValue n c < 2 * 10 ^ 13
 decimal-small n c h = omega (arith, decimal-room n c, pow-le-pow-right {n = 10} (lit< tt) {i = n} {j = 13} h)
 
 pub coded-small : (n x : ℕ) → n ≤ 13 → coded n x < 16 ^ 13

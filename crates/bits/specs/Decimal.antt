@@ -1,19 +1,19 @@
--- Binary coded decimal: decimal digits of four bits each, the most significant first (01's "BCD digits").
+-- Binary coded decimalValue: decimalValue digits of four bits each, the most significant first (01's "BCD digits").
 use Prim.Native.Nat.{ℕ, zero, suc, _+_, _*_, _/_, _%_}
 use mathlib.Core.Bool.{Bool, true, _&&_}
 use lib.Dec.{leb}
 
 -- the number that the last n digits of the code c say
-unfoldable pub decimal : ℕ → ℕ → ℕ
-decimal zero c = 0
-decimal (suc n) c = decimal n (c / 16) * 10 + c % 16
+unfoldable pub decimalValue : ℕ → ℕ → ℕ
+decimalValue zero c = 0
+decimalValue (suc n) c = decimalValue n (c / 16) * 10 + c % 16
 
 -- each of the last n digits of the code c is at most 9
 unfoldable pub digits : ℕ → ℕ → Bool
 digits zero c = true
 digits (suc n) c = digits n (c / 16) && leb (c % 16) 9
 
--- the code of the last n decimal digits of x
+-- the code of the last n decimalValue digits of x
 unfoldable pub coded : ℕ → ℕ → ℕ
 coded zero x = 0
 coded (suc n) x = coded n (x / 10) * 16 + x % 10

@@ -1,14 +1,14 @@
-// Bit fields of a run of bytes, read and written, and binary coded decimal. 01: "The record", words and bits.
+// Bit fields of a run of bytes, read and written, and binary coded decimalValue. 01: "The record", words and bits.
 // Bits past the last byte read as 0 and are not written, so no caller has to know the length first.
 ghost use mathlib.Core.Path.{_≡_};
 ghost use Prim.Native.Nat.{_+_, _-_, _*_, _/_, _%_, _^_, _≤_, _<_, min};
 ghost use lib.Dec.{ltb};
 ghost use lib.ListN.{getD, set};
 ghost use Rattle.bits.specs.Bits.{getBits, setBits, widest};
-ghost use Rattle.bits.specs.Decimal.{decimal, digits, coded, mostDigits};
+ghost use Rattle.bits.specs.Decimal.{decimalValue, digits, coded, mostDigits};
 ghost use Rattle.bits.specs.Steps.{mix, Stored};
 
-// The most bits of a field, and the most decimal digits.
+// The most bits of a field, and the most decimalValue digits.
 const WIDEST: usize = 56;
 
 const MOST_DIGITS: usize = 14;
@@ -73,7 +73,7 @@ fn cut_field(bytes: &[u8], start: usize, width: usize) -> u64
 pub fn read_bits(bytes: &[u8], start: usize, width: usize) -> u64
     ensures { λ r. ⌜ (r ≡ getBits start (min width widest) (now (bytes .entry))) × (r < 2 ^ min width widest) ⌝ }
 {
-    cut_field(bytes, start, lists::smaller(width, WIDEST))
+    cut_field(bytes, start, lists::lesser(width, WIDEST))
 }
 
 // Byte k of the n that make up x, high byte first.
@@ -134,7 +134,7 @@ fn put_field(bytes: &mut [u8], start: usize, width: usize, value: u64)
 pub fn write_bits(bytes: &mut [u8], start: usize, width: usize, value: u64)
     ensures { λ _. ⌜ now (bytes .exit) ≡ setBits start (min width widest) value (now (bytes .entry)) ⌝ }
 {
-    put_field(bytes, start, lists::smaller(width, WIDEST), value);
+    put_field(bytes, start, lists::lesser(width, WIDEST), value);
 }
 
 // Whether `value` has at most `width` bits.
@@ -150,7 +150,7 @@ pub fn fits_bits(value: u64, width: usize) -> bool
 // The number that the last `count` digits of `code` say.
 fn digits_value(count: usize, code: u64) -> u64
     requires { ⌜ count ≤ 14 ⌝ }
-    ensures { λ r. ⌜ r ≡ decimal count code ⌝ }
+    ensures { λ r. ⌜ r ≡ decimalValue count code ⌝ }
 {
     let mut value: u64 = 0;
     let mut left = count;
@@ -176,7 +176,7 @@ fn digits_good(count: usize, code: u64) -> bool
     good
 }
 
-// The code of the last `count` decimal digits of `value`.
+// The code of the last `count` decimalValue digits of `value`.
 fn digits_code(count: u64, value: u64) -> u64
     requires { ⌜ count ≤ 14 ⌝ }
     ensures { λ r. ⌜ r ≡ coded count value ⌝ }
@@ -189,21 +189,21 @@ fn digits_code(count: u64, value: u64) -> u64
 
 // The number that the last `count` digits of `code` say; of more than 14 digits, the last 14.
 pub fn decimal_value(count: usize, code: u64) -> u64
-    ensures { λ r. ⌜ r ≡ decimal (min count mostDigits) code ⌝ }
+    ensures { λ r. ⌜ r ≡ decimalValue (min count mostDigits) code ⌝ }
 {
-    digits_value(lists::smaller(count, MOST_DIGITS), code)
+    digits_value(lists::lesser(count, MOST_DIGITS), code)
 }
 
 // Whether each of the last `count` digits of `code`, or of more than 14 the last 14, is at most 9.
 pub fn decimal_digits(count: usize, code: u64) -> bool
     ensures { λ r. ⌜ r ≡ digits (min count mostDigits) code ⌝ }
 {
-    digits_good(lists::smaller(count, MOST_DIGITS), code)
+    digits_good(lists::lesser(count, MOST_DIGITS), code)
 }
 
-// The code of the last `count` decimal digits of `value`; of more than 14, the last 14.
+// The code of the last `count` decimalValue digits of `value`; of more than 14, the last 14.
 pub fn decimal_code(count: usize, value: u64) -> u64
     ensures { λ r. ⌜ r ≡ coded (min count mostDigits) value ⌝ }
 {
-    digits_code(lists::smaller(count, MOST_DIGITS) as u64, value)
+    digits_code(lists::lesser(count, MOST_DIGITS) as u64, value)
 }

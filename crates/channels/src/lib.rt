@@ -49,7 +49,7 @@ pub fn demultiplex(stretch: &[u8], channel: usize, out: &mut [i8])
     if (channel < 1) | (channel > 4) {
         return;
     }
-    let count = lists::smaller(stretch.len() / 4, out.len());
+    let count = lists::lesser(stretch.len() / 4, out.len());
     copy_channel(stretch, channel, count, out);
 }
 
@@ -83,9 +83,9 @@ fn store_sets(stretch: &mut [u8], count: usize, one: &[i8], two: &[i8], three: &
 pub fn multiplex(stretch: &mut [u8], one: &[i8], two: &[i8], three: &[i8], four: &[i8])
     ensures { λ _. ⌜ now (stretch .exit) ≡ multiplexed (now (stretch .entry)) (now (one .entry)) (now (two .entry)) (now (three .entry)) (now (four .entry)) ⌝ }
 {
-    let held = lists::smaller(one.len(), two.len());
-    let all_held = lists::smaller(held, lists::smaller(three.len(), four.len()));
-    let count = lists::smaller(stretch.len() / 4, all_held);
+    let held = lists::lesser(one.len(), two.len());
+    let all_held = lists::lesser(held, lists::lesser(three.len(), four.len()));
+    let count = lists::lesser(stretch.len() / 4, all_held);
     let end = 4 * count;
     store_sets(&mut stretch[..end], count, one, two, three, four);
 }

@@ -12,7 +12,7 @@ use lib.Dec.{T, leb, ltb, eqb, leb→le, ltb→lt, lt→ltb, eqb→eq}
 use lib.ListN.{length, getD}
 use Rattle.lists.proofs.Truth.{left, right}
 use Rattle.bits.specs.Bits.{bitAt, getBits, setBits}
-use Rattle.bits.specs.Decimal.{decimal, digits, coded}
+use Rattle.bits.specs.Decimal.{decimalValue, digits, coded}
 use Rattle.bits.proofs.Bits.{getBits-lt, get-set, get-other, set-get, length-setBits, bit-kept}
 use Rattle.bits.proofs.Decimal.{coded-lt, coded-digits, decimal-coded, coded-decimal, decimal-lt}
 use Rattle.fields.specs.declared.Field.{Field}
@@ -51,7 +51,7 @@ digits-width w t =
 
 -- the code of a value that fits has no more bits than the field, and stands for the value
 code-value : (k : Bool) (w v : ℕ) → T (not k || eqb (w % 4) 0) → T (not k || ltb v (10 ^ (w / 4))) → T (k || ltb v (2 ^ w))
-    → (cond k (coded (w / 4) v) v < 2 ^ w) × (cond k (decimal (w / 4) (cond k (coded (w / 4) v) v)) (cond k (coded (w / 4) v) v) ≡ v)
+    → (cond k (coded (w / 4) v) v < 2 ^ w) × (cond k (decimalValue (w / 4) (cond k (coded (w / 4) v) v)) (cond k (coded (w / 4) v) v) ≡ v)
 code-value true w v whole d b = (
   subst (λ (z : ℕ). coded (w / 4) v < z) (digits-width w whole) (coded-lt (w / 4) v),
   decimal-coded (w / 4) v (ltb→lt v (10 ^ (w / 4)) d),
@@ -60,13 +60,13 @@ code-value false w v whole d b = (ltb→lt v (2 ^ w) b, refl)
 
 -- a code of good digits is the code of its value, which fits
 value-code : (k : Bool) (w x : ℕ) → T (not k || eqb (w % 4) 0) → x < 2 ^ w → T (not k || digits (w / 4) x)
-    → cond k (coded (w / 4) (cond k (decimal (w / 4) x) x)) (cond k (decimal (w / 4) x) x) ≡ x
+    → cond k (coded (w / 4) (cond k (decimalValue (w / 4) x) x)) (cond k (decimalValue (w / 4) x) x) ≡ x
 value-code true w x whole h g = coded-decimal (w / 4) x (subst (λ (z : ℕ). x < z) (sym (digits-width w whole)) h) g
 value-code false w x whole h g = refl
 
 value-fits : (k : Bool) (w x : ℕ) → x < 2 ^ w → T (not k || digits (w / 4) x)
-    → T (not k || ltb (cond k (decimal (w / 4) x) x) (10 ^ (w / 4))) × T (k || ltb (cond k (decimal (w / 4) x) x) (2 ^ w))
-value-fits true w x h g = (lt→ltb (decimal (w / 4) x) (10 ^ (w / 4)) (decimal-lt (w / 4) x g), tt)
+    → T (not k || ltb (cond k (decimalValue (w / 4) x) x) (10 ^ (w / 4))) × T (k || ltb (cond k (decimalValue (w / 4) x) x) (2 ^ w))
+value-fits true w x h g = (lt→ltb (decimalValue (w / 4) x) (10 ^ (w / 4)) (decimal-lt (w / 4) x g), tt)
 value-fits false w x h g = (tt, lt→ltb x (2 ^ w) h)
 
 -- ## one field of bytes

@@ -1,4 +1,4 @@
--- What the code computes of a readable field, by whether it is decimal. Assumes nothing.
+-- What the code computes of a readable field, by whether it is decimalValue. Assumes nothing.
 use Prim.Native.Nat.{ℕ, _≤_, min}
 use mathlib.Core.Path.{_≡_, ap, sym, _∙_}
 use mathlib.Core.Bool.{Bool, true, false, cond, not, _||_}
@@ -6,7 +6,7 @@ use mathlib.Core.List.{List}
 use native.Mathlib.Nat.{min-eq-left}
 use native.Mathlib.Omega.{arith}
 use Rattle.bits.specs.Bits.{getBits, setBits, widest}
-use Rattle.bits.specs.Decimal.{decimal, digits, coded, mostDigits}
+use Rattle.bits.specs.Decimal.{decimalValue, digits, coded, mostDigits}
 use Rattle.fields.specs.declared.Field.{Field}
 use Rattle.fields.specs.Field.{start, width, digitCount, valueOf, withValue, digitsGood, Readable}
 
@@ -22,17 +22,17 @@ module _ (f : Field) (r : Readable f) (b : List ℕ) (s x : ℕ) (at : s ≡ sta
   code : x ≡ getBits (start f) (width f) b
   code = got ∙ (λ i. getBits (at i) (width-whole f r i) b)
 
-  pub read-decimal : f .3 ≡ true → decimal (min (digitCount f) mostDigits) x ≡ valueOf f b
+  pub read-decimal : f .3 ≡ true → decimalValue (min (digitCount f) mostDigits) x ≡ valueOf f b
   unfolding valueOf
   read-decimal e =
       let c : ℕ = getBits (start f) (width f) b in
-      (λ i. decimal (count-whole f r i) (code i)) ∙ sym (ap (λ (t : Bool). cond t (decimal (digitCount f) c) c) e)
+      (λ i. decimalValue (count-whole f r i) (code i)) ∙ sym (ap (λ (t : Bool). cond t (decimalValue (digitCount f) c) c) e)
 
   pub read-binary : f .3 ≡ false → x ≡ valueOf f b
   unfolding valueOf
   read-binary e =
       let c : ℕ = getBits (start f) (width f) b in
-      code ∙ sym (ap (λ (t : Bool). cond t (decimal (digitCount f) c) c) e)
+      code ∙ sym (ap (λ (t : Bool). cond t (decimalValue (digitCount f) c) c) e)
 
   pub digits-decimal : f .3 ≡ true → digits (min (digitCount f) mostDigits) x ≡ digitsGood f b
   unfolding digitsGood

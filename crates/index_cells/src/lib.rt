@@ -148,6 +148,6 @@ fn from_rows(rows: &[u32], second: u64, count: usize) -> [u32; 20]
 pub fn second_cells(rows: &[u32], second: u64, count: u64) -> [u32; 20]
     ensures { λ r. ⌜ r ≡ secondFrom (now (rows .entry)) second (min count (length (now (rows .entry)) / width)) ⌝ }
 {
-    let held = lists::smaller(count as usize, rows.len() / WIDTH);
+    let held = lists::lesser(count as usize, rows.len() / WIDTH);
     from_rows(rows, second, held)
 }

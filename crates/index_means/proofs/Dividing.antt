@@ -6,7 +6,7 @@ use lib.IntN.{pos}
 use lib.Ieee.{binary64, ofInt, div}
 use borrow.Author.Tests.{eq-eqb, ne-eqb}
 use Rattle.totals.specs.declared.Total.{Total}
-use Rattle.index_ask.specs.Exact.{exactLimit, ExactTotal}
+use Rattle.index_query.specs.Exact.{exactLimit, ExactTotal}
 use Rattle.index_means.specs.declared.Means.{Means}
 use Rattle.index_means.specs.Means.{quotientOf, noMeans, meansOf}
 use Rattle.index_means.proofs.Quotient.{whole-quotient}

@@ -8,14 +8,14 @@ use mathlib.Core.Bool.{Bool, true, false, not}
 use mathlib.Core.List.{List, [], _∷_, flatMap}
 use lib.IntN.{ℤ}
 use lib.ListN.{length}
-use Rattle.record.specs.Answer.{accepted, unless}
-use Rattle.record.specs.Refusal.{_when_, first}
+use Rattle.answers.specs.Answer.{accepted, unless}
+use Rattle.answers.specs.Refusal.{_when_, first}
 use Rattle.totals.specs.Total.{totalOf}
 use Rattle.index_model.specs.declared.Opening.{Opening}
 use Rattle.index_model.specs.Records.{channelSamples}
 use Rattle.index_model.specs.Second.{noSecond}
 use Rattle.index_model.specs.Opening.{inWindow, openingOf, openRefusal, openAnswer}
-use Rattle.index_model.specs.Ledger.{Ledger, noRecords, recordsOf, totalsOver, ledgerSecond, ledgerAsk, Call}
+use Rattle.index_model.specs.Ledger.{Ledger, noRecords, recordsOf, totalsOver, ledgerSecond, ledgerQuery, Call}
 use Rattle.index_model.specs.History.{after, ledgerAfter}
 use Rattle.index_model.proofs.Sound.{SoundLedger, perRecord}
 use Rattle.index_model.proofs.Decoded.{second-sound, joined-length}
@@ -38,8 +38,8 @@ module _ (o : Opening) (L : Ledger) (sound : SoundLedger o L) (s : ℕ) where
   by-ledger =
       λ t. meansOf (totalOf (samples 1)) (counted 1 t) ∷ meansOf (totalOf (samples 2)) (counted 2 t) ∷ meansOf (totalOf (samples 3)) (counted 3 t) ∷ meansOf (totalOf (samples 4)) (counted 4 t) ∷ []
 
-  pub answered : meansBy o (ledgerAsk o L s) ≡ ledgerMeansAnswer o L s
-  unfolding ledgerAsk ledgerMeansAnswer
+  pub answered : meansBy o (ledgerQuery o L s) ≡ ledgerMeansAnswer o L s
+  unfolding ledgerQuery ledgerMeansAnswer
   answered = by-test (inWindow o s)
     where
       by-test : (t : Bool) → meansBy o (unless (first (17 when not t ∷ [])) noSecond (ledgerSecond o L s)) ≡ unless (first (17 when not t ∷ [])) noMeansEach (ledgerMeans o L s)

@@ -12,7 +12,7 @@ use lib.Ieee.Exact.{HasValue}
 use lib.Ieee.Back.{round-whole}
 use lib.Ieee.Scale.{round-same}
 use lib.Ieee.Fits.{down-pos}
-use Rattle.index_ask.specs.Exact.{exactLimit}
+use Rattle.index_query.specs.Exact.{exactLimit}
 use Rattle.index_means.specs.Means.{quotientOf}
 
 -- a divisor that is worth b, above 0, has digits

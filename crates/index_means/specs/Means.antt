@@ -6,12 +6,12 @@ use mathlib.Core.List.{List, [], _∷_, map}
 use lib.Dec.{eqb}
 use lib.IntN.{ℤ, pos, negsuc}
 use lib.Ieee.{Float, fin, binary64, round}
-use Rattle.rates.specs.Rates.{rateOf, samplesPerRecord}
-use Rattle.record.specs.Answer.{Answer, unless}
+use Rattle.sample_rates.specs.Rates.{sampleRateOf, samplesPerRecord}
+use Rattle.answers.specs.Answer.{Answer, unless}
 use Rattle.totals.specs.declared.Total.{Total}
 use Rattle.index_model.specs.declared.Opening.{Opening}
 use Rattle.index_model.specs.Second.{SecondTotals}
-use Rattle.index_model.specs.Calls.{askAnswer}
+use Rattle.index_model.specs.Calls.{queryAnswer}
 use Rattle.index_means.specs.declared.Means.{Means}
 
 -- a whole number over a count above 0: the 64-bit float nearest to the exact quotient, rounded once (negsuc a is -1 - a)
@@ -39,11 +39,11 @@ noMeansEach = noMeans ∷ noMeans ∷ noMeans ∷ noMeans ∷ []
 
 -- of a second: its totals over the samples that its records have of each channel
 abbrev pub secondMeans : Opening → SecondTotals → List Means
-secondMeans o s = eachMeans (s .channels) (s .records * samplesPerRecord (rateOf (o .«sample_rate_hz»)))
+secondMeans o s = eachMeans (s .channels) (s .records * samplesPerRecord (sampleRateOf (o .«sample_rate_hz»)))
 
 -- what a question about them answers, by what a question about the second does
 abbrev pub meansBy : Opening → Answer SecondTotals → Answer (List Means)
 meansBy o a = unless (a .number) noMeansEach (secondMeans o (a .value))
 
 unfoldable pub meansAnswer : Opening → ℕ → List ℕ → List ℕ → Answer (List Means)
-meansAnswer o s rows seconds = meansBy o (askAnswer o s rows seconds)
+meansAnswer o s rows seconds = meansBy o (queryAnswer o s rows seconds)

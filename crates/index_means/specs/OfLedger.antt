@@ -6,8 +6,8 @@ use mathlib.Core.List.{List, [], _∷_, flatMap}
 use lib.IntN.{ℤ}
 use lib.ListN.{length}
 use Rattle.lists.specs.Fill.{tab}
-use Rattle.record.specs.Answer.{Answer, unless}
-use Rattle.record.specs.Refusal.{_when_, first}
+use Rattle.answers.specs.Answer.{Answer, unless}
+use Rattle.answers.specs.Refusal.{_when_, first}
 use Rattle.totals.specs.Total.{totalOf}
 use Rattle.index_model.specs.declared.Opening.{Opening}
 use Rattle.index_model.specs.Opening.{inWindow}

@@ -1,6 +1,6 @@
 -- The number and the values of 01 for the code's answer.
 use mathlib.Core.List.{List}
-use Rattle.record.specs.Answer.{Answer, told}
+use Rattle.answers.specs.Answer.{Answer, told}
 use Rattle.index_means.specs.declared.Means.{Means}
 use Rattle.index_means.specs.declared.MeansAnswer.{MeansAnswer}
 

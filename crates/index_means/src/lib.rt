@@ -1,10 +1,10 @@
-// The mean and the mean square of each channel of a second: a question to the index, as `index_ask::ask` is. 01, "The book": "The
+// The mean and the mean square of each channel of a second: a question to the index, as `index_query::query` is. 01, "The book": "The
 // mean and mean square of each channel, kept together as 64-bit floats, are each one division of two whole numbers held exactly;
 // both are 0 for no samples". It takes any value of an opening and any cells, and changes none.
 ghost use mathlib.Core.Path.{_≡_};
 ghost use Prim.Native.Nat.{_≤_};
-ghost use Rattle.record.specs.Answer.{refused};
-ghost use Rattle.index_ask.specs.Exact.{exactLimit, ExactTotal, ExactTotals};
+ghost use Rattle.answers.specs.Answer.{refused};
+ghost use Rattle.index_query.specs.Exact.{exactLimit, ExactTotal, ExactTotals};
 ghost use Rattle.index_means.specs.Means.{noMeans, meansOf, eachMeans, noMeansEach, meansAnswer};
 ghost use Rattle.index_means.specs.Shown.{shownMeans};
 use index_model::Opening;
@@ -81,11 +81,11 @@ fn no_answer(refusal: u8) -> MeansAnswer
 pub fn second_means(o: Opening, second: u64, rows: &[u32], seconds: &[u32]) -> MeansAnswer
     ensures { λ r. ⌜ shownMeans r ≡ meansAnswer o second (now (rows .entry)) (now (seconds .entry)) ⌝ }
 {
-    let answer = index_ask::ask(o, second, rows, seconds);
+    let answer = index_query::query(o, second, rows, seconds);
     if answer.refusal != 0 {
         return no_answer(answer.refusal);
     }
-    let count = index_ask::sample_count(o, answer.records);
+    let count = index_query::sample_count(o, answer.records);
     let totals = answer.channels;
     MeansAnswer {
         refusal: 0,

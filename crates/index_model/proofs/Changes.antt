@@ -13,7 +13,7 @@ use Rattle.index_model.specs.declared.Opening.{Opening}
 use Rattle.index_model.specs.Records.{secondOf}
 use Rattle.index_model.specs.Cells.{width, cell, blockAt, withBlock, rowOf, noRow, isGreatest, cellLimit, mergeBy, merged}
 use Rattle.index_model.specs.Opening.{placeOf}
-use Rattle.index_model.specs.Calls.{fullCount, leave, join, secondsPut, secondsTaken}
+use Rattle.index_model.specs.Calls.{fullCount, leave, join, secondsInserted, secondsRemoved}
 use Rattle.index_model.specs.Ledger.{Ledger, withEntry}
 use Rattle.index_model.specs.History.{Cells, isOf}
 use Rattle.index_model.proofs.Blocks.{length-with, elsewhere, at-block, at-other, block-at}
@@ -30,12 +30,12 @@ abbrev pub putCells : Opening → Cells → ℕ → List ℕ → Cells
 putCells o c n b =
     record {
       rows = withBlock (c .rows) (n - 1) (rowOf b);
-      seconds = secondsPut o (n - 1) (secondOf b) (rowOf b) (c .rows) (c .seconds);
+      seconds = secondsInserted o (n - 1) (secondOf b) (rowOf b) (c .rows) (c .seconds);
     }
 
 abbrev pub takenCells : Opening → Cells → ℕ → Cells
 takenCells o c n =
-    record { rows = withBlock (c .rows) (n - 1) noRow; seconds = secondsTaken o (n - 1) (c .rows) (c .seconds) }
+    record { rows = withBlock (c .rows) (n - 1) noRow; seconds = secondsRemoved o (n - 1) (c .rows) (c .seconds) }
 
 -- what holds once number n has another entry: the cells are those of the ledger, and no cell changed but those of the row and
 -- of the seconds that the two entries are of
@@ -93,8 +93,8 @@ module _ (o : Opening) (L : Ledger) (c : Cells) (regular : Regular o L) (agree :
 
   -- ## take out
 
-  taken-is : secondsTaken o (n - 1) (c .rows) (c .seconds) ≡ secondsLeft none
-  unfolding secondsTaken
+  taken-is : secondsRemoved o (n - 1) (c .rows) (c .seconds) ≡ secondsLeft none
+  unfolding secondsRemoved
   taken-is = left-is none
 
   taken-agrees : Agree o (withEntry L n none) (takenCells o c n)
@@ -133,8 +133,8 @@ module _ (o : Opening) (L : Ledger) (c : Cells) (regular : Regular o L) (agree :
     new-regular : Regular o new
     new-regular = regular-with o L regular n p q b sound room
 
-    put-is : secondsPut o (n - 1) s (rowOf b) (c .rows) (c .seconds) ≡ join (isOf s (L n)) (secondsLeft (some b)) (placeOf o s) (rowOf b)
-    unfolding secondsPut
+    put-is : secondsInserted o (n - 1) s (rowOf b) (c .rows) (c .seconds) ≡ join (isOf s (L n)) (secondsLeft (some b)) (placeOf o s) (rowOf b)
+    unfolding secondsInserted
     put-is = λ t. join (old-within o L c agree n p q s t) (left-is (some b) t) (placeOf o s) (rowOf b)
 
     long : width * C ≤ length (secondsLeft (some b))

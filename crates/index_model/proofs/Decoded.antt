@@ -10,7 +10,7 @@ use lib.IntN.{ℤ, pos, subℕ, _-ℤ_}
 use lib.ListN.{getD, length, length-append}
 use Rattle.lists.specs.Fill.{tab}
 use Rattle.lists.proofs.Fill.{getD-tab}
-use Rattle.record.proofs.Refusals.{cond-none, cond-some}
+use Rattle.answers.proofs.Refusals.{cond-none, cond-some}
 use Rattle.totals.specs.Total.{sumOf, squaresOf, keptOf, noTotal, totalOf}
 use Rattle.totals.proofs.Samples.{Bytes, bytes-append}
 use Rattle.index_model.specs.declared.Opening.{Opening}

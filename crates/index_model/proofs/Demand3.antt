@@ -5,11 +5,11 @@ use Prim.Native.Nat.{ℕ}
 use mathlib.Core.Path.{_≡_, sym, subst}
 use mathlib.Core.Bool.{true, false, _||_}
 use mathlib.Core.List.{List}
-use Rattle.record.specs.Answer.{accepted}
+use Rattle.answers.specs.Answer.{accepted}
 use Rattle.index_model.specs.declared.Opening.{Opening}
 use Rattle.index_model.specs.Cells.{blockAt}
 use Rattle.index_model.specs.Opening.{limitsWrong, heldWrong, inWindow, placeOf, openingOf, openRefusal, openAnswer, openRows, openSeconds}
-use Rattle.index_model.specs.Calls.{secondShown, isConsistent, testAnswer}
+use Rattle.index_model.specs.Calls.{secondShown, isConsistent, consistencyAnswer}
 use Rattle.index_model.specs.Ledger.{Ledger, noRecords, ledgerSecond, Call}
 use Rattle.index_model.specs.History.{Cells, after, replies, ledgerAfter, ledgerReplies, EachAlters}
 use Rattle.index_model.proofs.Agreement.{Regular, Agree}
@@ -70,7 +70,7 @@ module _ (pattern : List ℕ) (F C R : ℕ) (rows seconds : List ℕ) (none : op
   abbrev pub SaysYes : Opening → Type 0
   SaysYes o =
       let end = after o calls (opened pattern F C R rows seconds) in
-      testAnswer o (end .rows) (end .seconds) ≡ accepted true
+      consistencyAnswer o (end .rows) (end .seconds) ≡ accepted true
 
   pub test-says-yes : SaysYes (openAnswer pattern F C R rows seconds .value)
   test-says-yes =

@@ -12,17 +12,17 @@ use lib.ListN.{getD, length}
 use borrow.Author.Tests.{le-leb, lt-leb, leb-false, not-false, eq-eqb}
 use Rattle.lists.proofs.Order.{le-or-lt}
 use Rattle.header.specs.Header.{headerOf}
-use Rattle.record.specs.Answer.{accepted, unless}
+use Rattle.answers.specs.Answer.{accepted, unless}
 use Rattle.record.specs.Record.{recordRefusal}
-use Rattle.record.specs.Refusal.{Check, _when_, first, _then_}
-use Rattle.record.proofs.Refusals.{then-none, then-zero, none-applies}
+use Rattle.answers.specs.Refusal.{Check, _when_, first, _then_}
+use Rattle.answers.proofs.Refusals.{then-none, then-zero, none-applies}
 use Rattle.index_model.specs.declared.Opening.{Opening}
 use Rattle.index_model.specs.Records.{numberOf, secondOf}
 use Rattle.index_model.specs.Second.{noSecond}
 use Rattle.index_model.specs.Cells.{width, cell, blockAt, flag, rowWithin, cellFrom}
 use Rattle.index_model.specs.Opening.{limitsWrong, heldWrong, openingRefusal, otherReel, isOutside, inWindow, placeOf}
-use Rattle.index_model.specs.Calls.{fullCount, isFull, putRefusal, takeRefusal, askRefusal, askAnswer, secondShown, rowsInside, cellsRight, secondsRight, isConsistent, testAnswer}
-use Rattle.index_model.specs.Ledger.{Ledger, withEntry, isHeld, recordsOf, perSecond, ledgerFull, ledgerPut, ledgerTake, ledgerAsk, ledgerSecond}
+use Rattle.index_model.specs.Calls.{fullCount, isFull, insertRefusal, removeRefusal, queryRefusal, queryAnswer, secondShown, rowsInside, cellsRight, secondsRight, isConsistent, consistencyAnswer}
+use Rattle.index_model.specs.Ledger.{Ledger, withEntry, isHeld, recordsOf, perSecond, ledgerFull, ledgerInsert, ledgerRemove, ledgerQuery, ledgerSecond}
 use Rattle.index_model.specs.History.{Cells}
 use Rattle.index_model.proofs.Blocks.{block-cells}
 use Rattle.index_model.proofs.Rows.{rowFor, row-records, row-second}
@@ -46,8 +46,8 @@ module _ (o : Opening) (L : Ledger) where
     pub below : numberOf b ≤ o .«highest_number»
     pub room : length (recordsOf (withEntry L (numberOf b) none) (secondOf b) (o .«highest_number»)) < perSecond o
 
-  pub put-accepted : (b : List ℕ) → ledgerPut o L b ≡ 0 → Entering b
-  unfolding ledgerPut ledgerFull
+  pub put-accepted : (b : List ℕ) → ledgerInsert o L b ≡ 0 → Entering b
+  unfolding ledgerInsert ledgerFull
   put-accepted b e =
       record {
         sound =
@@ -75,8 +75,8 @@ module _ (o : Opening) (L : Ledger) where
       at : (k : ℕ) → getD checks k (0 when false) .applies ≡ false
       at k = none-applies checks k tt (both .1)
 
-  pub take-accepted : (n : ℕ) → ledgerTake o L n ≡ 0 → (0 < n) × (n ≤ o .«highest_number»)
-  unfolding ledgerTake
+  pub take-accepted : (n : ℕ) → ledgerRemove o L n ≡ 0 → (0 < n) × (n ≤ o .«highest_number»)
+  unfolding ledgerRemove
   take-accepted n e = in-range o n (none-applies (16 when isOutside o n ∷ 19 when not (isHeld (L n)) ∷ []) 0 tt e)
 
 -- ## by the cells
@@ -120,8 +120,8 @@ module _ (o : Opening) (fine : limitsWrong o || heldWrong o ≡ false) (L : Ledg
       own : flag (rowWithin (c .rows) (n - 1) s) ≡ share s 0 (L n)
       own = (λ t. flag (old-within o L c agree n (range .0) (range .1) s t)) ∙ sym (share-count s (L n))
 
-  pub put-judged : (b : List ℕ) → putRefusal o b (c .rows) (c .seconds) ≡ ledgerPut o L b
-  unfolding putRefusal ledgerPut
+  pub put-judged : (b : List ℕ) → insertRefusal o b (c .rows) (c .seconds) ≡ ledgerInsert o L b
+  unfolding insertRefusal ledgerInsert
   put-judged b =
       ap (λ (x : ℕ). recordRefusal b then x)
       (then-none _ _ opening-accepted
@@ -135,8 +135,8 @@ module _ (o : Opening) (fine : limitsWrong o || heldWrong o ≡ false) (L : Ledg
       by-tests false et true eu = refl
       by-tests false et false eu = λ i. cond (full-is (numberOf b) (secondOf b) et eu i) 18 0
 
-  pub take-judged : (n : ℕ) → takeRefusal o n (c .rows) (c .seconds) ≡ ledgerTake o L n
-  unfolding takeRefusal ledgerTake
+  pub take-judged : (n : ℕ) → removeRefusal o n (c .rows) (c .seconds) ≡ ledgerRemove o L n
+  unfolding removeRefusal ledgerRemove
   take-judged n = then-none _ _ opening-accepted ∙ by-test (isOutside o n) refl
     where
       by-entry : (held : Option (List ℕ)) → eqb (getD (rowFor held) 0 0) 0 ≡ not (isHeld held)
@@ -165,8 +165,8 @@ module _ (o : Opening) (fine : limitsWrong o || heldWrong o ≡ false) (L : Ledg
       z : F + (s - F) ≡ s
       z = omega (arith, w .0)
 
-  pub ask-answered : (s : ℕ) → askAnswer o s (c .rows) (c .seconds) ≡ ledgerAsk o L s
-  unfolding askAnswer askRefusal ledgerAsk
+  pub ask-answered : (s : ℕ) → queryAnswer o s (c .rows) (c .seconds) ≡ ledgerQuery o L s
+  unfolding queryAnswer queryRefusal ledgerQuery
   ask-answered s =
       ap (λ (x : ℕ). unless x noSecond (secondShown o (blockAt (c .seconds) (placeOf o s)))) (then-none _ _ opening-accepted)
       ∙ by-test (inWindow o s) refl
@@ -205,6 +205,6 @@ module _ (o : Opening) (fine : limitsWrong o || heldWrong o ≡ false) (L : Ledg
   unfolding isConsistent
   consistent = λ t. rows-inside R (omega arith) t && seconds-right C (omega arith) t
 
-  pub test-answered : testAnswer o (c .rows) (c .seconds) ≡ accepted true
-  unfolding testAnswer
+  pub test-answered : consistencyAnswer o (c .rows) (c .seconds) ≡ accepted true
+  unfolding consistencyAnswer
   test-answered = λ t. unless (opening-accepted t) false (consistent t)

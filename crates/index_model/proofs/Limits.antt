@@ -9,8 +9,8 @@ use lib.Dec.{T, eqb, ltb, leb, leb→le, ltb→lt}
 use borrow.Author.Tests.{eqb-true, eqb-false, ltb-false, le-ltb, not-false}
 use Rattle.lists.proofs.Truth.{left, right, held, or-false}
 use Rattle.header.specs.declared.Header.{Header}
-use Rattle.rates.specs.declared.Rate.{Rate}
-use Rattle.rates.specs.Rates.{rates, lineIn, rateOf, recordsPerSecond}
+use Rattle.sample_rates.specs.declared.SampleRate.{SampleRate}
+use Rattle.sample_rates.specs.Rates.{rates, lineIn, sampleRateOf, recordsPerSecond}
 use Rattle.index_model.specs.declared.Opening.{Opening}
 use Rattle.index_model.specs.Cells.{width}
 use Rattle.index_model.specs.Opening.{limitsWrong, heldWrong, tooSmall, openingRefusal, otherReel, isOutside, inWindow}
@@ -50,11 +50,11 @@ module _ (o : Opening) where
 -- ## L
 
 -- the one computed test of the table of rates
-mostIn : List Rate → Bool
+mostIn : List SampleRate → Bool
 mostIn [] = true
 mostIn (l ∷ ls) = leb (recordsPerSecond l) 50 && mostIn ls
 
-line-most : (ls : List Rate) (hz : ℕ) → T (mostIn ls) → recordsPerSecond (lineIn ls hz) ≤ 50
+line-most : (ls : List SampleRate) (hz : ℕ) → T (mostIn ls) → recordsPerSecond (lineIn ls hz) ≤ 50
 unfolding lineIn mostIn
 line-most [] hz t = omega arith
 line-most (l ∷ ls) hz t = by-test (eqb (l .0) hz) (line-most ls hz (right (leb (recordsPerSecond l) 50) (mostIn ls) t))
@@ -64,5 +64,5 @@ line-most (l ∷ ls) hz t = by-test (eqb (l .0) hz) (line-most ls hz (right (leb
     by-test false r = r
 
 pub full-most : (o : Opening) → fullCount o ≤ 50
-unfolding rateOf mostIn
+unfolding sampleRateOf mostIn
 full-most o = line-most rates _ tt

@@ -13,10 +13,10 @@ use Rattle.lists.proofs.Truth.{or-false}
 use Rattle.fields.specs.Table.{allDigitsGood}
 use Rattle.header.specs.Format.{fields}
 use Rattle.header.specs.Header.{headerOf}
-use Rattle.record.specs.Answer.{Answer}
+use Rattle.answers.specs.Answer.{Answer}
 use Rattle.record.specs.Record.{checks, recordRefusal}
-use Rattle.record.specs.Refusal.{_when_, first}
-use Rattle.record.proofs.Refusals.{noCheck, none-applies, then-zero, unless-none, cond-none}
+use Rattle.answers.specs.Refusal.{_when_, first}
+use Rattle.answers.proofs.Refusals.{noCheck, none-applies, then-zero, unless-none, cond-none}
 use Rattle.index_model.specs.declared.Opening.{Opening}
 use Rattle.index_model.specs.Cells.{width, cell, isGreatest}
 use Rattle.index_model.specs.Opening.{limitsWrong, heldWrong, tooSmall, openingOf, noOpening, openRefusal, openAnswer, openRows, openSeconds}

@@ -11,14 +11,14 @@ use Rattle.lists.proofs.Fill.{length-tab}
 use Rattle.lists.proofs.Order.{le-or-lt}
 use Rattle.channels.specs.Sample.{sampleOf}
 use Rattle.header.specs.Header.{headerOf}
-use Rattle.rates.specs.Rates.{rateOf, samplesPerRecord}
+use Rattle.sample_rates.specs.Rates.{sampleRateOf, samplesPerRecord}
 use Rattle.record.specs.Record.{recordRefusal}
 use Rattle.record.proofs.Accepted.{record-facts}
 use Rattle.totals.proofs.Samples.{Bytes, samples-bytes}
 use Rattle.totals.proofs.Sums.{squares-bound}
 use Rattle.index_model.specs.declared.Opening.{Opening}
 use Rattle.index_model.specs.Records.{secondOf, hasOrigin, hasError, channelSamples}
-use Rattle.record.specs.Stretch.{lineOf, sampleCount, stretchOf}
+use Rattle.record.specs.Stretch.{recordRate, sampleCount, stretchOf}
 use Rattle.index_model.specs.Cells.{width, flag, rowOf}
 use Rattle.index_model.specs.Opening.{inWindow}
 use Rattle.index_model.specs.Ledger.{Ledger}
@@ -39,7 +39,7 @@ SoundLedger o L = (n : ℕ) (b : List ℕ) → L n ≡ some b → Sound o b
 
 -- samples a channel of every record
 abbrev pub perRecord : Opening → ℕ
-perRecord o = samplesPerRecord (rateOf (o .«sample_rate_hz»))
+perRecord o = samplesPerRecord (sampleRateOf (o .«sample_rate_hz»))
 
 module _ (b : List ℕ) (c : ℕ) where
   pub samples-length : length (channelSamples c b) ≡ sampleCount b
@@ -51,8 +51,8 @@ module _ (b : List ℕ) (c : ℕ) where
   samples-signed = samples-bytes (stretchOf b) c (sampleCount b)
 
 pub count-is : {o : Opening} {b : List ℕ} → Sound o b → sampleCount b ≡ perRecord o
-unfolding lineOf
-count-is sound = ap (λ (hz : ℕ). samplesPerRecord (rateOf hz)) (sound .rate)
+unfolding recordRate
+count-is sound = ap (λ (hz : ℕ). samplesPerRecord (sampleRateOf hz)) (sound .rate)
 
 -- ## the row of an accepted record
 
@@ -62,11 +62,11 @@ flag-small false = omega arith
 
 module _ (b : List ℕ) (accepted : recordRefusal b ≡ 0) where
   pub count-some : 0 < sampleCount b
-  unfolding lineOf
+  unfolding recordRate
   count-some = record-facts b accepted .line .some
 
   pub count-most : sampleCount b ≤ 1000
-  unfolding lineOf
+  unfolding recordRate
   count-most = record-facts b accepted .line .most
 
   -- the four cells of a channel (1 to 4)

@@ -13,8 +13,8 @@ use Rattle.index_model.specs.declared.Opening.{Opening}
 use Rattle.index_model.specs.Records.{numberOf, secondOf}
 use Rattle.index_model.specs.Cells.{width}
 use Rattle.index_model.specs.Opening.{limitsWrong, heldWrong}
-use Rattle.index_model.specs.Calls.{putRows, putSeconds, takeRows, takeSeconds}
-use Rattle.index_model.specs.Ledger.{Ledger, withEntry, Call, put, take-out, ask, test, done, second, tested, ledgerPut, ledgerTake, ledgerStep, ledgerReply}
+use Rattle.index_model.specs.Calls.{insertRows, insertSeconds, removeRows, removeSeconds}
+use Rattle.index_model.specs.Ledger.{Ledger, withEntry, Call, insert, remove, query, consistency, done, second, tested, ledgerInsert, ledgerRemove, ledgerStep, ledgerReply}
 use Rattle.index_model.specs.History.{Cells, step, reply, after, replies, ledgerAfter, ledgerReplies, isAccepted, callNumber, isOf, leaves, joins, altersRow, altersSecond, Alters, EachAlters}
 use Rattle.index_model.proofs.Agreement.{Regular, Agree}
 use Rattle.index_model.proofs.Changes.{putCells, takenCells, Changed, put-changed, taken-changed}
@@ -58,19 +58,19 @@ changed-steps o L call entry c c' e joined changed =
 
 module _ (o : Opening) (fine : limitsWrong o || heldWrong o ≡ false) where
   module _ (L : Ledger) (c : Cells) (regular : Regular o L) (agree : Agree o L c) where
-    put-done : (b : List ℕ) → eqb (ledgerPut o L b) 0 ≡ true → Stepped o L (put b) (withEntry L (numberOf b) (some b)) c (putCells o c (numberOf b) b)
+    put-done : (b : List ℕ) → eqb (ledgerInsert o L b) 0 ≡ true → Stepped o L (insert b) (withEntry L (numberOf b) (some b)) c (putCells o c (numberOf b) b)
     unfolding isAccepted
     put-done b e =
-        let enters = put-accepted o L b (eqb-true (ledgerPut o L b) 0 e) in
-        changed-steps o L (put b) (some b) c (putCells o c (numberOf b) b) e (λ k. refl)
+        let enters = put-accepted o L b (eqb-true (ledgerInsert o L b) 0 e) in
+        changed-steps o L (insert b) (some b) c (putCells o c (numberOf b) b) e (λ k. refl)
         (put-changed o L c regular agree (numberOf b) (enters .above) (enters .below) b (enters .sound)
         (omega (arith, enters .room, others-count o fine L c regular agree (numberOf b) (secondOf b) (enters .above) (enters .below))))
 
-    take-done : (n : ℕ) → eqb (ledgerTake o L n) 0 ≡ true → Stepped o L (take-out n) (withEntry L n none) c (takenCells o c n)
+    take-done : (n : ℕ) → eqb (ledgerRemove o L n) 0 ≡ true → Stepped o L (remove n) (withEntry L n none) c (takenCells o c n)
     unfolding isAccepted
     take-done n e =
-        let range = take-accepted o L n (eqb-true (ledgerTake o L n) 0 e) in
-        changed-steps o L (take-out n) none c (takenCells o c n) e (λ k. refl)
+        let range = take-accepted o L n (eqb-true (ledgerRemove o L n) 0 e) in
+        changed-steps o L (remove n) none c (takenCells o c n) e (λ k. refl)
         (taken-changed o L c regular agree n (range .0) (range .1))
 
     -- by the ledger's test: the change, or nothing
@@ -79,26 +79,26 @@ module _ (o : Opening) (fine : limitsWrong o || heldWrong o ≡ false) where
     by-test call L' c' false h = record { regular = regular; agree = agree; alters = same o L call c }
 
     pub stepped : (call : Call) → Stepped o L call (ledgerStep o call L) c (step o call c)
-    unfolding ledgerStep step putRows putSeconds takeRows takeSeconds
-    stepped (put b) =
+    unfolding ledgerStep step insertRows insertSeconds removeRows removeSeconds
+    stepped (insert b) =
         subst
-        (λ (x : ℕ). Stepped o L (put b) (ledgerStep o (put b) L) c (record { rows = cond (eqb x 0) (putCells o c (numberOf b) b .rows) (c .rows); seconds = cond (eqb x 0) (putCells o c (numberOf b) b .seconds) (c .seconds) }))
+        (λ (x : ℕ). Stepped o L (insert b) (ledgerStep o (insert b) L) c (record { rows = cond (eqb x 0) (putCells o c (numberOf b) b .rows) (c .rows); seconds = cond (eqb x 0) (putCells o c (numberOf b) b .seconds) (c .seconds) }))
         (sym (put-judged o fine L c regular agree b))
-        (by-test (put b) (withEntry L (numberOf b) (some b)) (putCells o c (numberOf b) b) (eqb (ledgerPut o L b) 0) (put-done b))
-    stepped (take-out n) =
+        (by-test (insert b) (withEntry L (numberOf b) (some b)) (putCells o c (numberOf b) b) (eqb (ledgerInsert o L b) 0) (put-done b))
+    stepped (remove n) =
         subst
-        (λ (x : ℕ). Stepped o L (take-out n) (ledgerStep o (take-out n) L) c (record { rows = cond (eqb x 0) (takenCells o c n .rows) (c .rows); seconds = cond (eqb x 0) (takenCells o c n .seconds) (c .seconds) }))
+        (λ (x : ℕ). Stepped o L (remove n) (ledgerStep o (remove n) L) c (record { rows = cond (eqb x 0) (takenCells o c n .rows) (c .rows); seconds = cond (eqb x 0) (takenCells o c n .seconds) (c .seconds) }))
         (sym (take-judged o fine L c regular agree n))
-        (by-test (take-out n) (withEntry L n none) (takenCells o c n) (eqb (ledgerTake o L n) 0) (take-done n))
-    stepped (ask s) = record { regular = regular; agree = agree; alters = same o L (ask s) c }
-    stepped test = record { regular = regular; agree = agree; alters = same o L test c }
+        (by-test (remove n) (withEntry L n none) (takenCells o c n) (eqb (ledgerRemove o L n) 0) (take-done n))
+    stepped (query s) = record { regular = regular; agree = agree; alters = same o L (query s) c }
+    stepped consistency = record { regular = regular; agree = agree; alters = same o L consistency c }
 
     pub answered : (call : Call) → reply o call c ≡ ledgerReply o call L
     unfolding reply ledgerReply
-    answered (put b) = ap done (put-judged o fine L c regular agree b)
-    answered (take-out n) = ap done (take-judged o fine L c regular agree n)
-    answered (ask s) = ap second (ask-answered o fine L c regular agree s)
-    answered test = ap tested (test-answered o fine L c regular agree)
+    answered (insert b) = ap done (put-judged o fine L c regular agree b)
+    answered (remove n) = ap done (take-judged o fine L c regular agree n)
+    answered (query s) = ap second (ask-answered o fine L c regular agree s)
+    answered consistency = ap tested (test-answered o fine L c regular agree)
 
   -- ## any list of calls
 

@@ -16,7 +16,7 @@ use Rattle.index_model.specs.declared.Opening.{Opening}
 use Rattle.index_model.specs.Records.{secondOf}
 use Rattle.index_model.specs.Cells.{width, cell}
 use Rattle.index_model.specs.Opening.{limitsWrong, heldWrong}
-use Rattle.index_model.specs.Ledger.{Ledger, Call, put, take-out, ask, test, ledgerPut, ledgerTake, ledgerStep}
+use Rattle.index_model.specs.Ledger.{Ledger, Call, insert, remove, query, consistency, ledgerInsert, ledgerRemove, ledgerStep}
 use Rattle.index_model.specs.History.{Cells, step, after, ledgerAfter, isAccepted, callNumber, isOf, leaves, joins, altersRow, altersSecond, Alters}
 use Rattle.index_model.proofs.Limits.{in-window}
 use Rattle.index_model.proofs.Seconds.{Inside}
@@ -30,10 +30,10 @@ module _ (o : Opening) (L : Ledger) (regular : Regular o L) where
   -- what an accepted call is about: a number up to R, and entries of the window
   number-below : (call : Call) → isAccepted o L call ≡ true → callNumber call ≤ o .«highest_number»
   unfolding isAccepted
-  number-below (put b) e = put-accepted o L b (eqb-true (ledgerPut o L b) 0 e) .below
-  number-below (take-out n) e = take-accepted o L n (eqb-true (ledgerTake o L n) 0 e) .1
-  number-below (ask s) e = absurd (true≢false (sym e))
-  number-below test e = absurd (true≢false (sym e))
+  number-below (insert b) e = put-accepted o L b (eqb-true (ledgerInsert o L b) 0 e) .below
+  number-below (remove n) e = take-accepted o L n (eqb-true (ledgerRemove o L n) 0 e) .1
+  number-below (query s) e = absurd (true≢false (sym e))
+  number-below consistency e = absurd (true≢false (sym e))
 
   none-beyond : (held : Option (List ℕ)) → Inside o held → (k : ℕ) → o .«second_count» ≤ k → isOf (o .«first_second» + k) held ≡ false
   none-beyond none h k q = refl
@@ -41,12 +41,12 @@ module _ (o : Opening) (L : Ledger) (regular : Regular o L) where
 
   joins-beyond : (call : Call) → isAccepted o L call ≡ true → (k : ℕ) → o .«second_count» ≤ k → joins call (o .«first_second» + k) ≡ false
   unfolding isAccepted
-  joins-beyond (put b) e k q =
+  joins-beyond (insert b) e k q =
       ne-eqb (secondOf b) (o .«first_second» + k)
-      (λ z. omega (arith, z, in-window o (secondOf b) (put-accepted o L b (eqb-true (ledgerPut o L b) 0 e) .sound .window) .1))
-  joins-beyond (take-out n) e k q = refl
-  joins-beyond (ask s) e k q = refl
-  joins-beyond test e k q = refl
+      (λ z. omega (arith, z, in-window o (secondOf b) (put-accepted o L b (eqb-true (ledgerInsert o L b) 0 e) .sound .window) .1))
+  joins-beyond (remove n) e k q = refl
+  joins-beyond (query s) e k q = refl
+  joins-beyond consistency e k q = refl
 
   rows-beyond : (call : Call) (i : ℕ) → o .«highest_number» ≤ i → altersRow o L call i ≡ false
   unfolding altersRow

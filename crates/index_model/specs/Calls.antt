@@ -9,10 +9,10 @@ use lib.ListN.{length, getD}
 use Rattle.lists.specs.Fill.{tab}
 use Rattle.channels.specs.Sample.{signedOf}
 use Rattle.header.specs.Header.{headerOf}
-use Rattle.rates.specs.Rates.{rateOf, recordsPerSecond, samplesPerRecord}
-use Rattle.record.specs.Answer.{Answer, unless}
+use Rattle.sample_rates.specs.Rates.{sampleRateOf, recordsPerSecond, samplesPerRecord}
+use Rattle.answers.specs.Answer.{Answer, unless}
 use Rattle.record.specs.Record.{recordRefusal}
-use Rattle.record.specs.Refusal.{_when_, first, _then_}
+use Rattle.answers.specs.Refusal.{_when_, first, _then_}
 use Rattle.totals.specs.declared.Total.{Total}
 use Rattle.totals.specs.Total.{noTotal}
 use Rattle.index_model.specs.declared.Opening.{Opening}
@@ -23,7 +23,7 @@ use Rattle.index_model.specs.Opening.{openingRefusal, otherReel, isOutsi
 
 -- L: the records of a full second
 abbrev pub fullCount : Opening → ℕ
-fullCount o = recordsPerSecond (rateOf (o .«sample_rate_hz»))
+fullCount o = recordsPerSecond (sampleRateOf (o .«sample_rate_hz»))
 
 -- ## what a changed row does to the seconds
 
@@ -39,13 +39,13 @@ unfoldable pub join : Bool → List ℕ → ℕ → List ℕ → List ℕ
 join anew seconds k row = cond anew seconds (withBlock seconds k (merged (blockAt seconds k) row))
 
 -- row i replaced by a row of second s: the second that the old row was of is left, and second s is joined
-unfoldable pub secondsPut : Opening → ℕ → ℕ → List ℕ → List ℕ → List ℕ → List ℕ
-secondsPut o i s row rows seconds =
+unfoldable pub secondsInserted : Opening → ℕ → ℕ → List ℕ → List ℕ → List ℕ → List ℕ
+secondsInserted o i s row rows seconds =
     join (rowWithin rows i s) (leave o (withBlock rows i row) (cell rows i 0) (cell rows i 3) seconds) (placeOf o s) row
 
 -- row i cleared: the second that the old row was of is left
-unfoldable pub secondsTaken : Opening → ℕ → List ℕ → List ℕ → List ℕ
-secondsTaken o i rows seconds = leave o (withBlock rows i noRow) (cell rows i 0) (cell rows i 3) seconds
+unfoldable pub secondsRemoved : Opening → ℕ → List ℕ → List ℕ → List ℕ
+secondsRemoved o i rows seconds = leave o (withBlock rows i noRow) (cell rows i 0) (cell rows i 3) seconds
 
 -- ## put
 
@@ -54,8 +54,8 @@ unfoldable pub isFull : Opening → ℕ → ℕ → List ℕ → List ℕ → Bo
 isFull o n s rows seconds = leb (fullCount o + flag (rowWithin rows (n - 1) s)) (cell seconds (placeOf o s) 0)
 
 module _ (o : Opening) (b : List ℕ) (rows seconds : List ℕ) where
-  unfoldable pub putRefusal : ℕ
-  putRefusal =
+  unfoldable pub insertRefusal : ℕ
+  insertRefusal =
       recordRefusal b
       then openingRefusal o (length rows) (length seconds)
       then first
@@ -65,25 +65,25 @@ module _ (o : Opening) (b : List ℕ) (rows seconds : List ℕ) where
       ∷ 18 when isFull o (numberOf b) (secondOf b) rows seconds
       ∷ [])
 
-  unfoldable pub putRows : List ℕ
-  putRows = cond (eqb putRefusal 0) (withBlock rows (numberOf b - 1) (rowOf b)) rows
+  unfoldable pub insertRows : List ℕ
+  insertRows = cond (eqb insertRefusal 0) (withBlock rows (numberOf b - 1) (rowOf b)) rows
 
-  unfoldable pub putSeconds : List ℕ
-  putSeconds = cond (eqb putRefusal 0) (secondsPut o (numberOf b - 1) (secondOf b) (rowOf b) rows seconds) seconds
+  unfoldable pub insertSeconds : List ℕ
+  insertSeconds = cond (eqb insertRefusal 0) (secondsInserted o (numberOf b - 1) (secondOf b) (rowOf b) rows seconds) seconds
 
 -- ## take out
 
 module _ (o : Opening) (n : ℕ) (rows seconds : List ℕ) where
-  unfoldable pub takeRefusal : ℕ
-  takeRefusal =
+  unfoldable pub removeRefusal : ℕ
+  removeRefusal =
       openingRefusal o (length rows) (length seconds)
       then first (16 when isOutside o n ∷ 19 when eqb (cell rows (n - 1) 0) 0 ∷ [])
 
-  unfoldable pub takeRows : List ℕ
-  takeRows = cond (eqb takeRefusal 0) (withBlock rows (n - 1) noRow) rows
+  unfoldable pub removeRows : List ℕ
+  removeRows = cond (eqb removeRefusal 0) (withBlock rows (n - 1) noRow) rows
 
-  unfoldable pub takeSeconds : List ℕ
-  takeSeconds = cond (eqb takeRefusal 0) (secondsTaken o (n - 1) rows seconds) seconds
+  unfoldable pub removeSeconds : List ℕ
+  removeSeconds = cond (eqb removeRefusal 0) (secondsRemoved o (n - 1) rows seconds) seconds
 
 -- ## ask
 
@@ -120,16 +120,16 @@ secondShown o second =
       records = getD second 0 0;
       origins = getD second 1 0;
       errors = getD second 2 0;
-      channels = tab (totalFrom (getD second 0 0 * samplesPerRecord (rateOf (o .«sample_rate_hz»))) second) 1 4;
+      channels = tab (totalFrom (getD second 0 0 * samplesPerRecord (sampleRateOf (o .«sample_rate_hz»))) second) 1 4;
       kept = keptFrom (fullCount o) second;
     }
 
 module _ (o : Opening) (s : ℕ) (rows seconds : List ℕ) where
-  unfoldable pub askRefusal : ℕ
-  askRefusal = openingRefusal o (length rows) (length seconds) then first (17 when not (inWindow o s) ∷ [])
+  unfoldable pub queryRefusal : ℕ
+  queryRefusal = openingRefusal o (length rows) (length seconds) then first (17 when not (inWindow o s) ∷ [])
 
-  unfoldable pub askAnswer : Answer SecondTotals
-  askAnswer = unless askRefusal noSecond (secondShown o (blockAt seconds (placeOf o s)))
+  unfoldable pub queryAnswer : Answer SecondTotals
+  queryAnswer = unless queryRefusal noSecond (secondShown o (blockAt seconds (placeOf o s)))
 
 -- ## book test
 
@@ -153,5 +153,5 @@ module _ (o : Opening) (rows seconds : List ℕ) where
   unfoldable pub isConsistent : Bool
   isConsistent = rowsInside o rows (o .«highest_number») && secondsRight o rows seconds (o .«second_count»)
 
-  unfoldable pub testAnswer : Answer Bool
-  testAnswer = unless (openingRefusal o (length rows) (length seconds)) false isConsistent
+  unfoldable pub consistencyAnswer : Answer Bool
+  consistencyAnswer = unless (openingRefusal o (length rows) (length seconds)) false isConsistent

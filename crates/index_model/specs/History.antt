@@ -10,8 +10,8 @@ use lib.ListN.{length, getD}
 use Rattle.index_model.specs.declared.Opening.{Opening}
 use Rattle.index_model.specs.Records.{numberOf, secondOf}
 use Rattle.index_model.specs.Cells.{width}
-use Rattle.index_model.specs.Calls.{putRefusal, putRows, putSeconds, takeRefusal, takeRows, takeSeconds, askAnswer, testAnswer}
-use Rattle.index_model.specs.Ledger.{Ledger, Call, put, take-out, ask, test, Reply, done, second, tested, ledgerPut, ledgerTake, ledgerStep, ledgerReply}
+use Rattle.index_model.specs.Calls.{insertRefusal, insertRows, insertSeconds, removeRefusal, removeRows, removeSeconds, queryAnswer, consistencyAnswer}
+use Rattle.index_model.specs.Ledger.{Ledger, Call, insert, remove, query, consistency, Reply, done, second, tested, ledgerInsert, ledgerRemove, ledgerStep, ledgerReply}
 
 -- the two lent buffers
 pub record Cells : Type 0 where
@@ -20,16 +20,16 @@ pub record Cells : Type 0 where
 
 -- the cells after a call, and its answer
 unfoldable pub step : Opening → Call → Cells → Cells
-step o (put b) c = record { rows = putRows o b (c .rows) (c .seconds); seconds = putSeconds o b (c .rows) (c .seconds) }
-step o (take-out n) c = record { rows = takeRows o n (c .rows) (c .seconds); seconds = takeSeconds o n (c .rows) (c .seconds) }
-step o (ask s) c = c
-step o test c = c
+step o (insert b) c = record { rows = insertRows o b (c .rows) (c .seconds); seconds = insertSeconds o b (c .rows) (c .seconds) }
+step o (remove n) c = record { rows = removeRows o n (c .rows) (c .seconds); seconds = removeSeconds o n (c .rows) (c .seconds) }
+step o (query s) c = c
+step o consistency c = c
 
 unfoldable pub reply : Opening → Call → Cells → Reply
-reply o (put b) c = done (putRefusal o b (c .rows) (c .seconds))
-reply o (take-out n) c = done (takeRefusal o n (c .rows) (c .seconds))
-reply o (ask s) c = second (askAnswer o s (c .rows) (c .seconds))
-reply o test c = tested (testAnswer o (c .rows) (c .seconds))
+reply o (insert b) c = done (insertRefusal o b (c .rows) (c .seconds))
+reply o (remove n) c = done (removeRefusal o n (c .rows) (c .seconds))
+reply o (query s) c = second (queryAnswer o s (c .rows) (c .seconds))
+reply o consistency c = tested (consistencyAnswer o (c .rows) (c .seconds))
 
 -- over a list of calls, each on what the call before it left
 abbrev pub after : Opening → List Call → Cells → Cells
@@ -52,16 +52,16 @@ ledgerReplies o (call ∷ calls) ledger = ledgerReply o call ledger ∷ ledgerRe
 
 -- an accepted put or take-out
 unfoldable pub isAccepted : Opening → Ledger → Call → Bool
-isAccepted o ledger (put b) = eqb (ledgerPut o ledger b) 0
-isAccepted o ledger (take-out n) = eqb (ledgerTake o ledger n) 0
-isAccepted o ledger (ask s) = false
-isAccepted o ledger test = false
+isAccepted o ledger (insert b) = eqb (ledgerInsert o ledger b) 0
+isAccepted o ledger (remove n) = eqb (ledgerRemove o ledger n) 0
+isAccepted o ledger (query s) = false
+isAccepted o ledger consistency = false
 
 abbrev pub callNumber : Call → ℕ
-callNumber (put b) = numberOf b
-callNumber (take-out n) = n
-callNumber (ask s) = 0
-callNumber test = 0
+callNumber (insert b) = numberOf b
+callNumber (remove n) = n
+callNumber (query s) = 0
+callNumber consistency = 0
 
 -- a record, or none, is of second s
 abbrev pub isOf : ℕ → Option (List ℕ) → Bool
@@ -73,10 +73,10 @@ abbrev pub leaves : Ledger → Call → ℕ → Bool
 leaves ledger call s = isOf s (ledger (callNumber call))
 
 abbrev pub joins : Call → ℕ → Bool
-joins (put b) s = eqb (secondOf b) s
-joins (take-out n) s = false
-joins (ask s') s = false
-joins test s = false
+joins (insert b) s = eqb (secondOf b) s
+joins (remove n) s = false
+joins (query s') s = false
+joins consistency s = false
 
 -- row i, from 0, is that of the record
 unfoldable pub altersRow : Opening → Ledger → Call → ℕ → Bool

@@ -7,10 +7,10 @@ use lib.Dec.{eqb, leb}
 use lib.ListN.{length}
 use Rattle.lists.specs.Fill.{tab}
 use Rattle.header.specs.Header.{headerOf}
-use Rattle.rates.specs.Rates.{rateOf, recordsPerSecond}
-use Rattle.record.specs.Answer.{Answer, accepted, unless}
+use Rattle.sample_rates.specs.Rates.{sampleRateOf, recordsPerSecond}
+use Rattle.answers.specs.Answer.{Answer, accepted, unless}
 use Rattle.record.specs.Record.{recordRefusal}
-use Rattle.record.specs.Refusal.{_when_, first, _then_}
+use Rattle.answers.specs.Refusal.{_when_, first, _then_}
 use Rattle.totals.specs.Total.{totalOf}
 use Rattle.index_model.specs.declared.Opening.{Opening}
 use Rattle.index_model.specs.Records.{numberOf, secondOf, hasOrigin, hasError, channelSamples}
@@ -52,7 +52,7 @@ countOf test (b ∷ bs) = cond (test b) 1 0 + countOf test bs
 
 -- L: the records of a full second, by the pattern's rate; said here again, so that the ledger takes nothing from the calls
 abbrev pub perSecond : Opening → ℕ
-perSecond o = recordsPerSecond (rateOf (o .«sample_rate_hz»))
+perSecond o = recordsPerSecond (sampleRateOf (o .«sample_rate_hz»))
 
 -- the totals of some records of a second: each channel's over all their samples, joined; KEPT exactly when they are L, at
 -- least one with clock origin 1, and none with copy error 1
@@ -75,8 +75,8 @@ ledgerSecond o ledger s = totalsOver o (recordsOf ledger s (o .«highest_number�
 unfoldable pub ledgerFull : Opening → Ledger → ℕ → ℕ → Bool
 ledgerFull o ledger n s = leb (perSecond o) (length (recordsOf (withEntry ledger n none) s (o .«highest_number»)))
 
-unfoldable pub ledgerPut : Opening → Ledger → List ℕ → ℕ
-ledgerPut o ledger b =
+unfoldable pub ledgerInsert : Opening → Ledger → List ℕ → ℕ
+ledgerInsert o ledger b =
     recordRefusal b
     then first
     (15 when otherReel o (headerOf b)
@@ -85,19 +85,19 @@ ledgerPut o ledger b =
     ∷ 18 when ledgerFull o ledger (numberOf b) (secondOf b)
     ∷ [])
 
-unfoldable pub ledgerTake : Opening → Ledger → ℕ → ℕ
-ledgerTake o ledger n = first (16 when isOutside o n ∷ 19 when not (isHeld (ledger n)) ∷ [])
+unfoldable pub ledgerRemove : Opening → Ledger → ℕ → ℕ
+ledgerRemove o ledger n = first (16 when isOutside o n ∷ 19 when not (isHeld (ledger n)) ∷ [])
 
-unfoldable pub ledgerAsk : Opening → Ledger → ℕ → Answer SecondTotals
-ledgerAsk o ledger s = unless (first (17 when not (inWindow o s) ∷ [])) noSecond (ledgerSecond o ledger s)
+unfoldable pub ledgerQuery : Opening → Ledger → ℕ → Answer SecondTotals
+ledgerQuery o ledger s = unless (first (17 when not (inWindow o s) ∷ [])) noSecond (ledgerSecond o ledger s)
 
 -- ## calls
 
 pub data Call : Type 0 where
-  put : List ℕ → Call
-  take-out : ℕ → Call
-  ask : ℕ → Call
-  test : Call
+  insert : List ℕ → Call
+  remove : ℕ → Call
+  query : ℕ → Call
+  consistency : Call
 
 -- a refusal number or 0 for a put or take-out, and the answers to a question and to a test
 pub data Reply : Type 0 where
@@ -107,13 +107,13 @@ pub data Reply : Type 0 where
 
 -- the ledger after a call, and its answer: a book test gives yes
 unfoldable pub ledgerStep : Opening → Call → Ledger → Ledger
-ledgerStep o (put b) ledger = cond (eqb (ledgerPut o ledger b) 0) (withEntry ledger (numberOf b) (some b)) ledger
-ledgerStep o (take-out n) ledger = cond (eqb (ledgerTake o ledger n) 0) (withEntry ledger n none) ledger
-ledgerStep o (ask s) ledger = ledger
-ledgerStep o test ledger = ledger
+ledgerStep o (insert b) ledger = cond (eqb (ledgerInsert o ledger b) 0) (withEntry ledger (numberOf b) (some b)) ledger
+ledgerStep o (remove n) ledger = cond (eqb (ledgerRemove o ledger n) 0) (withEntry ledger n none) ledger
+ledgerStep o (query s) ledger = ledger
+ledgerStep o consistency ledger = ledger
 
 unfoldable pub ledgerReply : Opening → Call → Ledger → Reply
-ledgerReply o (put b) ledger = done (ledgerPut o ledger b)
-ledgerReply o (take-out n) ledger = done (ledgerTake o ledger n)
-ledgerReply o (ask s) ledger = second (ledgerAsk o ledger s)
-ledgerReply o test ledger = tested (accepted true)
+ledgerReply o (insert b) ledger = done (ledgerInsert o ledger b)
+ledgerReply o (remove n) ledger = done (ledgerRemove o ledger n)
+ledgerReply o (query s) ledger = second (ledgerQuery o ledger s)
+ledgerReply o consistency ledger = tested (accepted true)

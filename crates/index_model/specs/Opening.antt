@@ -7,10 +7,10 @@ use lib.ListN.{length}
 use Rattle.lists.specs.Fill.{over}
 use Rattle.header.specs.declared.Header.{Header}
 use Rattle.header.specs.Header.{headerOf}
-use Rattle.rates.specs.Rates.{rateOf, isNoRate}
-use Rattle.record.specs.Answer.{Answer, unless}
+use Rattle.sample_rates.specs.Rates.{sampleRateOf, isNoRate}
+use Rattle.answers.specs.Answer.{Answer, unless}
 use Rattle.record.specs.Record.{recordRefusal}
-use Rattle.record.specs.Refusal.{_when_, first, _then_}
+use Rattle.answers.specs.Refusal.{_when_, first, _then_}
 use Rattle.index_model.specs.declared.Opening.{Opening}
 use Rattle.index_model.specs.Cells.{width}
 
@@ -34,7 +34,7 @@ limitsWrong o =
 -- a held rate, tape, year or day that 5, 7 or 8 refuses
 unfoldable pub heldWrong : Opening → Bool
 heldWrong o =
-    isNoRate (rateOf (o .«sample_rate_hz»))
+    isNoRate (sampleRateOf (o .«sample_rate_hz»))
     || eqb (o .«tape_number») 0
     || (ltb 99 (o .year) || (eqb (o .day) 0 || ltb 366 (o .day)))
 

@@ -4,10 +4,10 @@ use mathlib.Core.Path.{_≡_, ap, sym, _∙_}
 use mathlib.Core.List.{List, [], _∷_}
 use lib.ListN.{length}
 use Rattle.lists.specs.Fill.{over}
-use Rattle.record.specs.Answer.{accepted, refused}
+use Rattle.answers.specs.Answer.{accepted, refused}
 use Rattle.record.specs.Record.{recordRefusal}
-use Rattle.record.specs.Refusal.{_when_, first, _then_}
-use Rattle.record.proofs.Refusals.{then-zero, none-applies, unless-none, unless-some, cond-none, cond-some}
+use Rattle.answers.specs.Refusal.{_when_, first, _then_}
+use Rattle.answers.proofs.Refusals.{then-zero, none-applies, unless-none, unless-some, cond-none, cond-some}
 use Rattle.index_model.specs.declared.Opening.{Opening}
 use Rattle.index_model.specs.Cells.{width}
 use Rattle.index_model.specs.Opening.{limitsWrong, tooSmall, openingOf, noOpening, openRefusal, openAnswer, openRows, openSeconds}

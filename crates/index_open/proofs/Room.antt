@@ -7,8 +7,8 @@ use native.Mathlib.Omega.{arith}
 use lib.Dec.{eqb, ltb}
 use borrow.Author.Tests.{eqb-false, ltb-false}
 use Rattle.lists.proofs.Truth.{or-false}
-use Rattle.record.specs.Refusal.{_when_}
-use Rattle.record.proofs.Refusals.{none-applies}
+use Rattle.answers.specs.Refusal.{_when_}
+use Rattle.answers.proofs.Refusals.{none-applies}
 use Rattle.index_model.specs.declared.Opening.{Opening}
 use Rattle.index_model.specs.Cells.{width}
 use Rattle.index_model.specs.Opening.{highestLimit, daySeconds, limitsWrong, heldWrong, tooSmall, openingRefusal}

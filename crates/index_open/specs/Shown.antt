@@ -1,5 +1,5 @@
 -- The number and the value of 01 for each case of opening's answer.
-use Rattle.record.specs.Answer.{Answer, accepted, refused}
+use Rattle.answers.specs.Answer.{Answer, accepted, refused}
 use Rattle.index_model.specs.declared.Opening.{Opening}
 use Rattle.index_model.specs.Opening.{noOpening}
 use Rattle.index_open.specs.declared.OpenAnswer.{OpenAnswer}

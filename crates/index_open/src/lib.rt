@@ -6,7 +6,7 @@ ghost use Prim.Native.Nat.{_+_, _*_, _≤_};
 ghost use lib.Dec.{ltb};
 ghost use lib.ListN.{length};
 ghost use Rattle.lists.specs.Fill.{over};
-ghost use Rattle.record.specs.Refusal.{_when_, first, _then_};
+ghost use Rattle.answers.specs.Refusal.{_when_, first, _then_};
 ghost use Rattle.record.specs.Record.{recordRefusal};
 ghost use Rattle.index_model.specs.Cells.{width};
 ghost use Rattle.index_model.specs.Opening.{daySeconds, limitsWrong, heldWrong, tooSmall, openingRefusal, otherReel, isOutside, inWindow, openingOf, openAnswer, openRows, openSeconds};
@@ -56,7 +56,7 @@ fn limits_wrong(o: Opening) -> bool
 fn held_wrong(o: Opening) -> bool
     ensures { λ r. ⌜ r ≡ heldWrong o ⌝ }
 {
-    let rate = rates::rate_of(o.sample_rate_hz);
+    let rate = sample_rates::sample_rate_of(o.sample_rate_hz);
     (rate.0 == 0) | (o.tape_number == 0) | ((o.year > 99) | ((o.day == 0) | (o.day > 366)))
 }
 
@@ -78,7 +78,7 @@ fn too_small(o: Opening, rows: usize, seconds: usize) -> bool
 }
 
 // 13 where the limits are wrong, else 14 where the buffers are too small, else 0.
-fn refusal_of(wrong: bool, small: bool) -> u8
+fn limits_refusal(wrong: bool, small: bool) -> u8
     ensures { λ r. ⌜ r ≡ first (13 when wrong ∷ 14 when small ∷ []) ⌝ }
 {
     if wrong {
@@ -97,7 +97,7 @@ pub fn opening_refusal(o: Opening, rows: usize, seconds: usize) -> u8
     let limits = limits_wrong(o);
     let held = held_wrong(o);
     let small = too_small(o, rows, seconds);
-    refusal_of(limits | held, small)
+    limits_refusal(limits | held, small)
 }
 
 // Whether a record with this header is of another reel.
@@ -133,7 +133,7 @@ pub fn in_window(o: Opening, s: u64) -> bool
 pub fn full_count(o: Opening) -> u64
     ensures { λ r. ⌜ r ≡ fullCount o ⌝ }
 {
-    let rate = rates::rate_of(o.sample_rate_hz);
+    let rate = sample_rates::sample_rate_of(o.sample_rate_hz);
     rate.1
 }
 
@@ -159,8 +159,8 @@ fn opening_of(pattern: &[u8], first_second: u64, second_count: u64, highest_numb
 fn judge(pattern: &[u8], o: Opening, rows: usize, seconds: usize) -> u8
     ensures { λ r. ⌜ r ≡ recordRefusal (now (pattern .entry)) then first (13 when limitsWrong o ∷ 14 when tooSmall o rows seconds ∷ []) ⌝ }
 {
-    let limits = refusal_of(limits_wrong(o), too_small(o, rows, seconds));
-    record::first_refusal(record::accept(pattern), limits)
+    let limits = limits_refusal(limits_wrong(o), too_small(o, rows, seconds));
+    answers::first_refusal(record::refusal_of(pattern), limits)
 }
 
 // The first cells become 0; those past them stay.

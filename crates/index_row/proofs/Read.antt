@@ -13,12 +13,12 @@ use Rattle.header.specs.declared.Header.{Header}
 use Rattle.header.specs.Format.{fields}
 use Rattle.header.specs.Header.{values, headerOf}
 use Rattle.header.proofs.Sound.{same-header, values-header}
-use Rattle.record.specs.Answer.{Answer, accepted, refused}
+use Rattle.answers.specs.Answer.{Answer, accepted, refused}
 use Rattle.record.specs.Record.{recordRefusal, headerAnswer}
 use Rattle.record.specs.Shown.{shownHeader}
 use Rattle.record.specs.declared.HeaderAnswer.{HeaderAnswer}
 use Rattle.record.specs.declared.HeaderAnswer.the-variants as HeaderAnswer
-use Rattle.record.proofs.Refusals.{unless-none}
+use Rattle.answers.proofs.Refusals.{unless-none}
 
 module _ (b : List ℕ) {a : HeaderAnswer} (e : shownHeader a ≡ headerAnswer b) where
   -- a header: the bytes are accepted, and it is theirs

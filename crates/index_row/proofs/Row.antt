@@ -7,7 +7,7 @@ use lib.Dec.{eqb}
 use Rattle.header.specs.declared.Header.{Header}
 use Rattle.header.specs.Header.{headerOf}
 use Rattle.record.specs.Record.{recordRefusal}
-use Rattle.record.proofs.Refusals.{cond-none, cond-some}
+use Rattle.answers.proofs.Refusals.{cond-none, cond-some}
 use Rattle.totals.specs.declared.Total.{Total}
 use Rattle.totals.specs.Total.{totalsOf}
 use Rattle.totals.specs.Running.{totalAt}

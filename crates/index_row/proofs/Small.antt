@@ -14,7 +14,7 @@ use Rattle.record.proofs.Accepted.{record-facts}
 use Rattle.totals.specs.declared.Total.{Total}
 use Rattle.totals.specs.Total.{totalOf, totalsOf}
 use Rattle.index_model.specs.Records.{secondOf, hasOrigin, hasError}
-use Rattle.record.specs.Stretch.{lineOf, sampleCount, stretchOf}
+use Rattle.record.specs.Stretch.{recordRate, sampleCount, stretchOf}
 use Rattle.index_model.specs.Cells.{channelCells, allChannelCells, flag, rowOf, noRow}
 use Rattle.index_row.specs.Row.{rowOrNone}
 use Rattle.index_row.proofs.Channel.{sum-within, least-within, greatest-within}
@@ -58,7 +58,7 @@ flag-small true = omega arith
 flag-small false = omega arith
 
 row-fits : (b : List ℕ) → recordRefusal b ≡ 0 → Fitting (rowOf b)
-unfolding rowOf totalsOf secondOf lineOf
+unfolding rowOf totalsOf secondOf recordRate
 row-fits b e =
     let f = record-facts b e in
     (omega arith, (flag-small (hasOrigin b), (flag-small (hasError b), (omega (arith, f .tag), channels-small (stretchOf b) (sampleCount b) (f .line .most) 1 4))))

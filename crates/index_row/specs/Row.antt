@@ -11,8 +11,8 @@ use Rattle.index_model.specs.Cells.{rowOf, noRow}
 use Rattle.index_row.specs.declared.ChannelCells.{ChannelCells}
 
 -- the cells of a channel as a list
-abbrev pub listed : ChannelCells → List ℕ
-listed c = c .sum ∷ c .squares ∷ c .least ∷ c .greatest ∷ []
+abbrev pub cellList : ChannelCells → List ℕ
+cellList c = c .sum ∷ c .squares ∷ c .least ∷ c .greatest ∷ []
 
 -- the row of an accepted record; 0 throughout for other bytes
 unfoldable pub rowOrNone : List ℕ → List ℕ

@@ -9,7 +9,7 @@ ghost use Rattle.record.specs.Record.{headerBytes, recordRefusal};
 ghost use Rattle.totals.specs.Total.{totalsOf};
 ghost use Rattle.totals.specs.Running.{totalAt};
 ghost use Rattle.index_model.specs.Cells.{channelCells, flag, rowOf};
-ghost use Rattle.index_row.specs.Row.{listed, AllBounded, rowOrNone};
+ghost use Rattle.index_row.specs.Row.{cellList, AllBounded, rowOrNone};
 use header::Header;
 use record::HeaderAnswer;
 use totals::Total;
@@ -46,7 +46,7 @@ fn flag_cell(bit: u64) -> u32
 // The cells of a channel (1 to 4) that has so many samples.
 fn channel_cells(totals: [Total; 4], channel: usize, count: usize) -> ChannelCells
     requires { ⌜ (1 ≤ channel) × (channel ≤ 4) × AllBounded count totals ⌝ }
-    ensures { λ r. ⌜ listed r ≡ channelCells count (totalAt totals channel) ⌝ }
+    ensures { λ r. ⌜ cellList r ≡ channelCells count (totalAt totals channel) ⌝ }
 {
     let at = channel - 1;
     let total = totals[at];
@@ -82,7 +82,7 @@ fn row_from(
     three: ChannelCells,
     four: ChannelCells,
 ) -> [u32; 20]
-    ensures { λ r. ⌜ r ≡ 1 ∷ origin ∷ error ∷ second ∷ listed one ++ (listed two ++ (listed three ++ listed four)) ⌝ }
+    ensures { λ r. ⌜ r ≡ 1 ∷ origin ∷ error ∷ second ∷ cellList one ++ (cellList two ++ (cellList three ++ cellList four)) ⌝ }
 {
     [
         1,
@@ -113,7 +113,7 @@ fn accepted_row(bytes: &[u8], h: Header) -> [u32; 20]
     requires { ⌜ (recordRefusal (now bytes) ≡ 0) × (h ≡ headerOf (now bytes)) ⌝ }
     ensures { λ r. ⌜ r ≡ rowOf (now (bytes .entry)) ⌝ }
 {
-    let rate = rates::rate_of(h.sample_rate_hz);
+    let rate = sample_rates::sample_rate_of(h.sample_rate_hz);
     let count = rate.2 as usize;
     let totals = record_totals(bytes, count);
     let origin = flag_cell(h.clock_origin);

@@ -11,21 +11,21 @@ use Rattle.reel.specs.Reel.{Found, accepted, finished, refused, stepAt, bytesFo
 use Rattle.reel.specs.Walk.{Walk, isRecord, stopped, onward, walkFrom}
 use Rattle.reel.proofs.Place.{moved, stays}
 use Rattle.listing.specs.Listing.{recordText, recordTexts, longestLine}
-use Rattle.listing.specs.Steps.{lineOf, linesFrom, placeFrom}
+use Rattle.listing.specs.Steps.{stepLine, linesFrom, placeFrom}
 use Rattle.listing.proofs.Line.{line-small}
 
 -- ## the line at a place
 
 -- of bytes that are not empty
-pub some-line : (b : List ℕ) → 0 < length b → recordText b ≡ lineOf b
+pub some-line : (b : List ℕ) → 0 < length b → recordText b ≡ stepLine b
 some-line [] h = absurd (let z : ⊥ = omega arith in z)
 some-line (x ∷ b) h = refl
 
-pub no-line : (b : List ℕ) → length b ≡ 0 → [] ≡ lineOf b
+pub no-line : (b : List ℕ) → length b ≡ 0 → [] ≡ stepLine b
 no-line [] e = refl
 no-line (x ∷ b) e = absurd (let z : ⊥ = omega (arith, e) in z)
 
-accepted-line : (b : List ℕ) → recordRefusal b ≡ 0 → recordText b ≡ lineOf b
+accepted-line : (b : List ℕ) → recordRefusal b ≡ 0 → recordText b ≡ stepLine b
 accepted-line b e = some-line b (let h = record-facts b e .long in omega arith)
 
 module _ (reel : List ℕ) (place : ℕ) where
@@ -37,30 +37,30 @@ module _ (reel : List ℕ) (place : ℕ) where
       by-found finished t = refl
       by-found (refused n) t = refl
 
-  line-at : length (lineOf (recordAt reel place)) ≤ longestLine
+  line-at : length (stepLine (recordAt reel place)) ≤ longestLine
   line-at = by-test (isRecord (stepAt reel place)) refl
     where
-      by-test : (t : Bool) → isRecord (stepAt reel place) ≡ t → length (lineOf (recordAt reel place)) ≤ longestLine
+      by-test : (t : Bool) → isRecord (stepAt reel place) ≡ t → length (stepLine (recordAt reel place)) ≤ longestLine
       by-test true e =
           let good = moved reel place e .good in
           omega (arith, line-small (recordAt reel place) good, ap length (accepted-line (recordAt reel place) good))
-      by-test false e = omega (arith, ap (λ (b : List ℕ). length (lineOf b)) (no-record e))
+      by-test false e = omega (arith, ap (λ (b : List ℕ). length (stepLine b)) (no-record e))
 
 -- ## one step more
 
 module _ (reel : List ℕ) where
-  pub lines-step : (left place : ℕ) → 0 < left → linesFrom reel left place ≡ lineOf (recordAt reel place) ++ linesFrom reel (left - 1) (nextPlace reel place)
+  pub lines-step : (left place : ℕ) → 0 < left → linesFrom reel left place ≡ stepLine (recordAt reel place) ++ linesFrom reel (left - 1) (nextPlace reel place)
   unfolding linesFrom
   lines-step zero place h = absurd (let z : ⊥ = omega arith in z)
   lines-step (suc n) place h =
       let e : n ≡ suc n - 1 = omega arith in
-      ap (λ (k : ℕ). lineOf (recordAt reel place) ++ linesFrom reel k (nextPlace reel place)) e
+      ap (λ (k : ℕ). stepLine (recordAt reel place) ++ linesFrom reel k (nextPlace reel place)) e
 
   -- the line of this step was counted
-  pub count-step : (left place : ℕ) {line : ℕ} → 0 < left → line ≡ length (lineOf (recordAt reel place)) → length (linesFrom reel left place) ≡ line + length (linesFrom reel (left - 1) (nextPlace reel place))
+  pub count-step : (left place : ℕ) {line : ℕ} → 0 < left → line ≡ length (stepLine (recordAt reel place)) → length (linesFrom reel left place) ≡ line + length (linesFrom reel (left - 1) (nextPlace reel place))
   count-step left place h e =
       ap length (lines-step left place h)
-      ∙ length-append (lineOf (recordAt reel place)) (linesFrom reel (left - 1) (nextPlace reel place))
+      ∙ length-append (stepLine (recordAt reel place)) (linesFrom reel (left - 1) (nextPlace reel place))
       ∙ ap (λ (k : ℕ). k + length (linesFrom reel (left - 1) (nextPlace reel place))) (sym e)
 
   pub place-step : (left place : ℕ) → 0 < left → placeFrom reel left place ≡ placeFrom reel (left - 1) (nextPlace reel place)
@@ -75,7 +75,7 @@ module _ (reel : List ℕ) where
   unfolding linesFrom
   lines-small zero place = omega arith
   lines-small (suc n) place =
-      let line = lineOf (recordAt reel place) in
+      let line = stepLine (recordAt reel place) in
       let rest = linesFrom reel n (nextPlace reel place) in
       omega (arith, line-at reel place, lines-small n (nextPlace reel place), length-append line rest)
 
@@ -92,7 +92,7 @@ module _ (reel : List ℕ) where
   same-stopped (suc n) place e =
       let s = same-stopped n place e in
       record {
-        lines = (λ i. lineOf (no-record reel place e i) ++ linesFrom reel n (stays reel place e i)) ∙ s .lines;
+        lines = (λ i. stepLine (no-record reel place e i) ++ linesFrom reel n (stays reel place e i)) ∙ s .lines;
         there = ap (placeFrom reel n) (stays reel place e) ∙ s .there;
       }
 

@@ -9,10 +9,10 @@ use lib.Dec.{ltb}
 use lib.ListN.{length, drop}
 use lib.Seq.{sets, sets-eq}
 use borrow.Author.Tests.{lt-ltb, le-ltb}
-use Rattle.record.specs.Answer.{accepted, refused}
-use Rattle.record.specs.Refusal.{_when_, first}
+use Rattle.answers.specs.Answer.{accepted, refused}
+use Rattle.answers.specs.Refusal.{_when_, first}
 use Rattle.record.specs.Record.{recordRefusal}
-use Rattle.record.proofs.Refusals.{then-none, then-some, unless-none, unless-some, cond-none, cond-some}
+use Rattle.answers.proofs.Refusals.{then-none, then-some, unless-none, unless-some, cond-none, cond-some}
 use Rattle.listing.specs.Listing.{recordText, textRefusal, lineRefusal, textAnswer, textOver, bufferAfter}
 
 module _ (n : ℕ) (out text : List ℕ) where

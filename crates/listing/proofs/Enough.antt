@@ -9,13 +9,13 @@ use native.Mathlib.Omega.{arith}
 use lib.Dec.{ltb, lit<}
 use lib.ListN.{length, length-append}
 use borrow.Author.Tests.{ltb-true, ltb-false}
-use Rattle.record.specs.Answer.{accepted}
+use Rattle.answers.specs.Answer.{accepted}
 use Rattle.record.specs.Record.{headerBytes}
 use Rattle.reel.specs.Reel.{Found, stepAt}
 use Rattle.reel.specs.Walk.{walk}
 use Rattle.reel.proofs.Onward.{along}
 use Rattle.reel.proofs.Walk.{all-accepted, ends-there}
-use Rattle.text.specs.Number.{decimal, digitsIn}
+use Rattle.text.specs.Number.{decimalText, digitsIn}
 use Rattle.text.specs.Text.{headerLine, refusedLine}
 use Rattle.text.proofs.Line.{refusedLine-length}
 use Rattle.listing.specs.Listing.{longestInput, recordTexts, lastText, listing, shortestRecord, mostRecords, longestLine, longestListing}
@@ -51,7 +51,7 @@ module _ (input : List ℕ) where
 
   -- 84 records leave too few bytes for a header, so that the last line is short; fewer records leave room for any last line
   walked-small : length input ≤ longestInput → length walked ≤ mostRecords * longestLine + length (refusedLine 1)
-  unfolding refusedLine decimal digitsIn
+  unfolding refusedLine decimalText digitsIn
   walked-small h = by-test (ltb (length records) mostRecords) refl
     where
       by-test : (t : Bool) → ltb (length records) mostRecords ≡ t → length walked ≤ mostRecords * longestLine + 10

@@ -17,8 +17,8 @@ use Rattle.fields.proofs.Tables.{fit-at}
 use Rattle.header.specs.Format.{fields}
 use Rattle.header.specs.declared.Header.{Header}
 use Rattle.header.specs.Header.{headerOf}
-use Rattle.record.specs.Answer.{Answer, accepted, refused, unless}
-use Rattle.record.specs.FrequencyRate.{rateUnits, headerRate, rateAnswer}
+use Rattle.answers.specs.Answer.{Answer, accepted, refused, unless}
+use Rattle.record.specs.FrequencyRate.{frequencyRateUnits, headerRate, frequencyRateAnswer}
 use Rattle.record.specs.Record.{recordRefusal}
 use Rattle.record.proofs.Accepted.{record-facts, digits-small, power-small, values-small}
 use Rattle.record.proofs.Signs.{size-bound}
@@ -30,14 +30,14 @@ use Rattle.listing.specs.Listing.{recordText, longestLine}
 use Rattle.listing.specs.Steps.{columnsLine}
 
 -- the columns of a record, each as it was read
-pub columns : (b : List ℕ) {h : Header} {first : ℕ} {rate : ℤ} → h ≡ headerOf b → first ≡ timeAnswer b 0 .value → rate ≡ rateAnswer b .value
+pub columns : (b : List ℕ) {h : Header} {first : ℕ} {rate : ℤ} → h ≡ headerOf b → first ≡ timeAnswer b 0 .value → rate ≡ frequencyRateAnswer b .value
     → recordLine (h .«record_number») first (h .«clock_origin») (h .«readback_uhz») rate ≡ recordText b
 unfolding recordText
 columns b e f g = (λ i. recordLine (e i .«record_number») (f i) (e i .«clock_origin») (e i .«readback_uhz») (g i))
 
 -- the columns as a callee gets them: the rate is read of its bits
-pub passed : (c : Columns) {text : List ℕ} → SFits w64 (c .«rate_units») → columnsLine c ≡ text
-    → recordLine (c .number) (c .«first_us») (c .origin) (c .«frequency_uhz») (toZ w64 (ofZ w64 (c .«rate_units»))) ≡ text
+pub passed : (c : Columns) {text : List ℕ} → SFits w64 (c .«frequency_rate_units») → columnsLine c ≡ text
+    → recordLine (c .number) (c .«first_us») (c .origin) (c .«frequency_uhz») (toZ w64 (ofZ w64 (c .«frequency_rate_units»))) ≡ text
 passed c f e = ap (recordLine (c .number) (c .«first_us») (c .origin) (c .«frequency_uhz»)) (toZ-ofZ f) ∙ e
 
 -- what holds of the value and of what is empty holds of an answer's value
@@ -52,8 +52,8 @@ size-of : (n : ℕ) → natAbs (negℤ (pos n)) ≡ n
 size-of zero = refl
 size-of (suc n) = refl
 
-rate-size : (digits power sign : ℕ) → natAbs (rateUnits digits power sign) ≡ digits * 10 ^ power
-unfolding rateUnits
+rate-size : (digits power sign : ℕ) → natAbs (frequencyRateUnits digits power sign) ≡ digits * 10 ^ power
+unfolding frequencyRateUnits
 rate-size digits power sign = by-test (eqb sign 1)
   where
     by-test : (t : Bool) → natAbs (cond t (pos (digits * 10 ^ power)) (negℤ (pos (digits * 10 ^ power)))) ≡ digits * 10 ^ power
@@ -79,8 +79,8 @@ module _ (b : List ℕ) (e : recordRefusal b ≡ 0) where
       let tag = record-facts b e .tag in
       unless-value (λ (t : ℕ). t < 10 ^ 11) (timeRefusal b 0) 0 _ (lit< tt) (omega (arith, tag))
 
-  rate-small : natAbs (rateAnswer b .value) ≤ 99999 * 10 ^ 7
-  unfolding rateAnswer
+  rate-small : natAbs (frequencyRateAnswer b .value) ≤ 99999 * 10 ^ 7
+  unfolding frequencyRateAnswer
   rate-small =
       let h = headerOf b in
       let power = pow-le-pow-right {n = 10} (lit< tt) {i = h .«rate_power»} {j = 7} (omega (arith, power-small b e)) in
@@ -95,7 +95,7 @@ module _ (b : List ℕ) (e : recordRefusal b ≡ 0) where
       let h = headerOf b in
       omega (
         arith,
-        recordLine-length (h .«record_number») (timeAnswer b 0 .value) (h .«clock_origin») (h .«readback_uhz») (rateAnswer b .value)
+        recordLine-length (h .«record_number») (timeAnswer b 0 .value) (h .«clock_origin») (h .«readback_uhz») (frequencyRateAnswer b .value)
             (omega (arith, number-small))
             time-small
             (omega (arith, origin-small))

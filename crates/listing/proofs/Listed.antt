@@ -8,7 +8,7 @@ use lib.Dec.{ltb}
 use lib.ListN.{length, length-append}
 use borrow.Author.Tests.{ltb-false}
 use Rattle.record.specs.Record.{headerBytes}
-use Rattle.record.proofs.Refusals.{cond-none, cond-some}
+use Rattle.answers.proofs.Refusals.{cond-none, cond-some}
 use Rattle.reel.specs.Reel.{Found, accepted, finished, refused, stepAt}
 use Rattle.reel.specs.Walk.{walk}
 use Rattle.reel.proofs.Place.{Told, told}

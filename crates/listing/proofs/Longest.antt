@@ -8,7 +8,7 @@ use native.Mathlib.Omega.{arith}
 use lib.Dec.{leb, ltb}
 use lib.ListN.{length, drop, take, length-append, length-drop}
 use borrow.Author.Tests.{lt-ltb, leb-true, leb-false}
-use Rattle.record.specs.Refusal.{_when_, first, _then_}
+use Rattle.answers.specs.Refusal.{_when_, first, _then_}
 use Rattle.record.specs.Record.{headerBytes, recordRefusal}
 use Rattle.reel.specs.Reel.{Found, accepted, finished, refused, headerWords, wordThree, restRefusal, stepAt, recordAt, nextPlace}
 use Rattle.reel.specs.Walk.{Walk, isRecord, onward, walkFrom, AllAccepted}

@@ -8,23 +8,23 @@ use native.Mathlib.Omega.{arith}
 use lib.Dec.{T, eqb, leb, leb→le}
 use lib.ListN.{length}
 use Rattle.lists.proofs.Truth.{left, right}
-use Rattle.rates.specs.declared.Rate.{Rate}
-use Rattle.rates.specs.Rates.{rates, lineIn, rateOf, rateHz, wordsA}
+use Rattle.sample_rates.specs.declared.SampleRate.{SampleRate}
+use Rattle.sample_rates.specs.Rates.{rates, lineIn, sampleRateOf, rateHz, wordsA}
 use Rattle.header.specs.Header.{headerOf}
 use Rattle.record.specs.Record.{recordRefusal}
 use Rattle.record.proofs.Accepted.{record-facts}
 use Rattle.listing.specs.Listing.{shortestRecord}
 
 -- the shorter of a line's two lengths, in bytes
-abbrev longLine : Rate → Bool
+abbrev longLine : SampleRate → Bool
 longLine l = leb shortestRecord (2 * wordsA l)
 
-abbrev longLines : List Rate → Bool
+abbrev longLines : List SampleRate → Bool
 longLines [] = true
 longLines (l ∷ ls) = longLine l && longLines ls
 
 -- a rate that has a line in the table has a long one
-long-in : (ls : List Rate) (hz : ℕ) → T (longLines ls) → 1 ≤ rateHz (lineIn ls hz) → shortestRecord ≤ 2 * wordsA (lineIn ls hz)
+long-in : (ls : List SampleRate) (hz : ℕ) → T (longLines ls) → 1 ≤ rateHz (lineIn ls hz) → shortestRecord ≤ 2 * wordsA (lineIn ls hz)
 unfolding lineIn
 long-in [] hz t h = absurd (let z : ⊥ = omega arith in z)
 long-in (l ∷ ls) hz t h = by-test (eqb (l .0) hz) (long-in ls hz (right (longLine l) (longLines ls) t)) h
@@ -39,7 +39,7 @@ rates-long : T (longLines rates)
 rates-long = tt
 
 pub record-long : (b : List ℕ) → recordRefusal b ≡ 0 → shortestRecord ≤ length b
-unfolding rateOf
+unfolding sampleRateOf
 record-long b e =
     let f = record-facts b e in
     let l = f .line in

@@ -6,10 +6,10 @@ use mathlib.Core.List.{List, [], _∷_, _++_}
 use lib.Dec.{eqb, ltb}
 use lib.ListN.{length, drop}
 use Rattle.header.specs.Header.{headerOf}
-use Rattle.record.specs.Answer.{Answer, unless}
-use Rattle.record.specs.FrequencyRate.{rateAnswer}
+use Rattle.answers.specs.Answer.{Answer, unless}
+use Rattle.record.specs.FrequencyRate.{frequencyRateAnswer}
 use Rattle.record.specs.Record.{recordRefusal}
-use Rattle.record.specs.Refusal.{_when_, first, _then_}
+use Rattle.answers.specs.Refusal.{_when_, first, _then_}
 use Rattle.reel.specs.Reel.{Found, accepted, finished, refused}
 use Rattle.reel.specs.Walk.{walk}
 use Rattle.text.specs.Text.{headerLine, recordLine, refusedLine}
@@ -22,7 +22,7 @@ longestInput = 65536
 -- the line of a record: its number, the time of sample 0, clock origin, readback frequency and frequency rate
 unfoldable pub recordText : List ℕ → List ℕ
 recordText b =
-    recordLine (headerOf b .«record_number») (timeAnswer b 0 .value) (headerOf b .«clock_origin») (headerOf b .«readback_uhz») (rateAnswer b .value)
+    recordLine (headerOf b .«record_number») (timeAnswer b 0 .value) (headerOf b .«clock_origin») (headerOf b .«readback_uhz») (frequencyRateAnswer b .value)
 
 -- the lines of records, one behind the other
 unfoldable pub recordTexts : List (List ℕ) → List ℕ

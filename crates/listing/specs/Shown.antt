@@ -1,6 +1,6 @@
 -- The number and the value of 01 for each case of the code's answer.
 use Prim.Native.Nat.{ℕ}
-use Rattle.record.specs.Answer.{Answer, accepted, refused}
+use Rattle.answers.specs.Answer.{Answer, accepted, refused}
 use Rattle.listing.specs.declared.ListAnswer.{ListAnswer}
 use Rattle.listing.specs.declared.ListAnswer.the-variants.{Length, Refused}
 

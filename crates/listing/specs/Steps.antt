@@ -13,17 +13,17 @@ use Rattle.listing.specs.Listing.{longestInput, recordText}
 
 -- the line that the columns make
 abbrev pub columnsLine : Columns → List ℕ
-columnsLine c = recordLine (c .number) (c .«first_us») (c .origin) (c .«frequency_uhz») (c .«rate_units»)
+columnsLine c = recordLine (c .number) (c .«first_us») (c .origin) (c .«frequency_uhz») (c .«frequency_rate_units»)
 
 -- the line of a record, nothing where there is none
-abbrev pub lineOf : List ℕ → List ℕ
-lineOf [] = []
-lineOf (x ∷ b) = recordText (x ∷ b)
+abbrev pub stepLine : List ℕ → List ℕ
+stepLine [] = []
+stepLine (x ∷ b) = recordText (x ∷ b)
 
 -- the lines of n steps from a place on, and the place after them; where no record stands a step adds nothing and stays
 unfoldable pub linesFrom : List ℕ → ℕ → ℕ → List ℕ
 linesFrom reel zero place = []
-linesFrom reel (suc n) place = lineOf (recordAt reel place) ++ linesFrom reel n (nextPlace reel place)
+linesFrom reel (suc n) place = stepLine (recordAt reel place) ++ linesFrom reel n (nextPlace reel place)
 
 unfoldable pub placeFrom : List ℕ → ℕ → ℕ → ℕ
 placeFrom reel zero place = place

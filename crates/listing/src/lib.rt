@@ -4,13 +4,13 @@ ghost use mathlib.Core.Path.{_≡_};
 ghost use Prim.Native.Nat.{_≤_};
 ghost use lib.ListN.{length};
 ghost use Rattle.text.specs.Writing.{Room, Written};
-ghost use Rattle.record.specs.FrequencyRate.{rateAnswer};
+ghost use Rattle.record.specs.FrequencyRate.{frequencyRateAnswer};
 ghost use Rattle.reel.specs.Reel.{stepAt};
 ghost use Rattle.times.specs.SampleTime.{timeAnswer};
 ghost use Rattle.listing.specs.Listing.{recordText, listing, longestListing, textOver, lineAnswer, lineAfter, listAnswer, listAfter};
-ghost use Rattle.listing.specs.Steps.{columnsLine, lineOf, linesFrom, placeFrom, mostSteps, stepsFor, refusalOf, endRefusal, endLine};
+ghost use Rattle.listing.specs.Steps.{columnsLine, stepLine, linesFrom, placeFrom, mostSteps, stepsFor, refusalOf, endRefusal, endLine};
 ghost use Rattle.listing.specs.Shown.{shownList};
-use record::RateAnswer;
+use record::FrequencyRateAnswer;
 use reel::Step;
 use times::TimeAnswer;
 
@@ -37,12 +37,12 @@ fn first_us(bytes: &[u8]) -> u64
 }
 
 // The frequency rate, 0 for bytes that are no record.
-fn rate_units(bytes: &[u8]) -> i64
-    ensures { λ r. ⌜ r ≡ rateAnswer (now (bytes .entry)) .value ⌝ }
+fn frequency_rate_units(bytes: &[u8]) -> i64
+    ensures { λ r. ⌜ r ≡ frequencyRateAnswer (now (bytes .entry)) .value ⌝ }
 {
     match record::frequency_rate(bytes) {
-        RateAnswer::Units(units) => units,
-        RateAnswer::Refused(_) => 0,
+        FrequencyRateAnswer::Units(units) => units,
+        FrequencyRateAnswer::Refused(_) => 0,
     }
 }
 
@@ -52,7 +52,7 @@ struct Columns {
     first_us: u64,
     origin: u64,
     frequency_uhz: u64,
-    rate_units: i64,
+    frequency_rate_units: i64,
 }
 
 fn read_columns(bytes: &[u8]) -> Columns
@@ -64,7 +64,7 @@ fn read_columns(bytes: &[u8]) -> Columns
         first_us: first_us(bytes),
         origin: h.clock_origin,
         frequency_uhz: h.readback_uhz,
-        rate_units: rate_units(bytes),
+        frequency_rate_units: frequency_rate_units(bytes),
     }
 }
 
@@ -77,7 +77,7 @@ fn text_length(bytes: &[u8]) -> usize
         columns.first_us,
         columns.origin,
         columns.frequency_uhz,
-        columns.rate_units,
+        columns.frequency_rate_units,
     )
 }
 
@@ -93,7 +93,7 @@ fn write_text(out: &mut [u8], at: usize, bytes: &[u8]) -> usize
         columns.first_us,
         columns.origin,
         columns.frequency_uhz,
-        columns.rate_units,
+        columns.frequency_rate_units,
     );
     text::next_of(put)
 }
@@ -103,7 +103,7 @@ pub fn record_line(bytes: &[u8], out: &mut [u8]) -> ListAnswer
     ensures { λ r. ⌜ shownList r ≡ lineAnswer (now (bytes .entry)) (now (out .entry)) ⌝ }
     ensures { λ _. ⌜ now (out .exit) ≡ lineAfter (now (bytes .entry)) (now (out .entry)) ⌝ }
 {
-    let refusal = record::accept(bytes);
+    let refusal = record::refusal_of(bytes);
     if refusal != 0 {
         return ListAnswer::Refused(refusal);
     }
@@ -117,7 +117,7 @@ pub fn record_line(bytes: &[u8], out: &mut [u8]) -> ListAnswer
 
 // The length of a step's line: of nothing, where no record stands.
 fn line_length(bytes: &[u8]) -> usize
-    ensures { λ r. ⌜ r ≡ length (lineOf (now (bytes .entry))) ⌝ }
+    ensures { λ r. ⌜ r ≡ length (stepLine (now (bytes .entry))) ⌝ }
 {
     if bytes.len() == 0 {
         return 0;
@@ -126,8 +126,8 @@ fn line_length(bytes: &[u8]) -> usize
 }
 
 fn write_line(out: &mut [u8], at: usize, bytes: &[u8]) -> usize
-    requires { ⌜ Room (now out) at (lineOf (now bytes)) ⌝ }
-    ensures { λ r. ⌜ Written (now (out .entry)) at (lineOf (now (bytes .entry))) r (now (out .exit)) ⌝ }
+    requires { ⌜ Room (now out) at (stepLine (now bytes)) ⌝ }
+    ensures { λ r. ⌜ Written (now (out .entry)) at (stepLine (now (bytes .entry))) r (now (out .exit)) ⌝ }
 {
     if bytes.len() == 0 {
         return at;

@@ -5,10 +5,10 @@ use mathlib.Core.Bool.{Bool, true, false, cond, not, _&&_}
 use mathlib.Core.List.{List, [], _∷_}
 use native.Mathlib.Omega.{arith}
 use borrow.Author.Tests.{eq-eqb, ne-eqb}
-use Rattle.record.specs.Answer.{Answer, accepted, refused, unless}
-use Rattle.record.specs.Refusal.{_when_, first, _then_}
+use Rattle.answers.specs.Answer.{Answer, accepted, refused, unless}
+use Rattle.answers.specs.Refusal.{_when_, first, _then_}
 use Rattle.record.specs.Record.{recordRefusal}
-use Rattle.record.proofs.Refusals.{then-some, unless-some}
+use Rattle.answers.proofs.Refusals.{then-some, unless-some}
 use Rattle.monitor.specs.Segments.{isNoRow}
 use Rattle.monitor.specs.Monitor.{isNew, segmentBytes, rowAnswer}
 

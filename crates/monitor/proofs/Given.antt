@@ -10,11 +10,11 @@ use lib.Dec.{eqb}
 use lib.ListN.{length, length-take, length-drop}
 use borrow.Author.Tests.{eqb-true, eqb-false}
 use Rattle.lists.proofs.Order.{le-or-lt}
-use Rattle.record.specs.Answer.{Answer, accepted, refused}
+use Rattle.answers.specs.Answer.{Answer, accepted, refused}
 use Rattle.record.specs.Record.{recordRefusal}
-use Rattle.record.specs.Refusal.{_when_, first, _then_}
-use Rattle.record.proofs.Refusals.{then-zero, none-applies}
-use Rattle.monitor.specs.Segments.{rowOf, isNoRow, segmentAt, wordCount, mostWords}
+use Rattle.answers.specs.Refusal.{_when_, first, _then_}
+use Rattle.answers.proofs.Refusals.{then-zero, none-applies}
+use Rattle.monitor.specs.Segments.{segmentRow, isNoRow, segmentAt, wordCount, mostWords}
 use Rattle.monitor.specs.Monitor.{isNew, segmentBytes, rowRefusal, segmentAnswer}
 use Rattle.monitor.proofs.Segments.{sound-words, row-most}
 use Rattle.monitor.proofs.Monitor.{last-sample-word-facts}
@@ -40,7 +40,7 @@ module _ (b : List ℕ) (row : ℕ) (inside : row < 7) where
 
 module _ (this earlier : List ℕ) (number : ℕ) where
   abbrev row : ℕ
-  row = rowOf number
+  row = segmentRow number
 
   abbrev chosen : List ℕ
   chosen = cond (isNew this row) (segmentBytes this row) (segmentBytes earlier row)

@@ -8,7 +8,7 @@ use lib.ListN.{length, take, drop}
 use Rattle.bits.specs.Bits.{getBits}
 use Rattle.record.specs.Record.{recordRefusal}
 use Rattle.record.proofs.Accepted.{record-facts, stretch-inside}
-use Rattle.record.specs.Stretch.{lineOf}
+use Rattle.record.specs.Stretch.{recordRate}
 use Rattle.monitor.specs.declared.SegmentWords.{SegmentWords}
 use Rattle.monitor.specs.Segments.{firstWord, wordCount, segmentAt}
 use Rattle.monitor.specs.Monitor.{lastSampleWordOf, isNew, segmentBytes}
@@ -16,7 +16,7 @@ use Rattle.monitor.specs.Shown.{part}
 
 -- N is small, and the 150 monitor words after it lie within the record
 pub last-sample-word-facts : (b : List ℕ) → recordRefusal b ≡ 0 → (lastSampleWordOf b ≤ 2040) × (2 * lastSampleWordOf b + 300 ≤ length b)
-unfolding lastSampleWordOf lineOf
+unfolding lastSampleWordOf recordRate
 last-sample-word-facts b e =
     let l = record-facts b e .line in
     (omega (arith, l .last, l .most), omega (arith, l .last, stretch-inside b e))

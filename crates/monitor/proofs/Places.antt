@@ -2,7 +2,7 @@
 use Prim.Native.Nat.{ℕ}
 use mathlib.Core.Path.{_≡_, ap, sym, _∙_, subst}
 use mathlib.Core.List.{List}
-use Rattle.record.specs.Answer.{Answer}
+use Rattle.answers.specs.Answer.{Answer}
 use Rattle.monitor.specs.declared.Place.{Place}
 use Rattle.monitor.specs.Shown.{shownPlace, Inside}
 

@@ -13,7 +13,7 @@ use borrow.Author.Tests.{eq-eqb, ne-eqb}
 use Rattle.lists.specs.Tests.{all}
 use Rattle.lists.proofs.Truth.{left, right, each}
 use Rattle.monitor.specs.declared.SegmentWords.{SegmentWords}
-use Rattle.monitor.specs.Segments.{segments, noSegment, segmentNumber, firstWord, lastWord, wordCount, rowIn, rowOf, segmentAt, SoundWords, wordTests, soundAfter}
+use Rattle.monitor.specs.Segments.{segments, noSegment, segmentNumber, firstWord, lastWord, wordCount, rowIn, segmentRow, segmentAt, SoundWords, wordTests, soundAfter}
 
 -- ## the loop over the rows
 
@@ -69,8 +69,8 @@ row-in-most (s ∷ ss) number = by-test (eqb (segmentNumber s) number) (row-in-m
     by-test true h = omega arith
     by-test false h = omega arith
 
-pub row-most : (number : ℕ) → rowOf number ≤ 7
-unfolding rowOf
+pub row-most : (number : ℕ) → segmentRow number ≤ 7
+unfolding segmentRow
 row-most number = row-in-most segments number
 
 -- ## the table against the counts of the figure
@@ -80,6 +80,6 @@ word-counts : map wordCount segments ≡ 45 ∷ 13 ∷ 15 ∷ 15 ∷ 15 ∷ 20 �
 word-counts = refl
 
 -- no number stands twice: each row is found by its number
-rows-found : map (λ s. rowOf (segmentNumber s)) segments ≡ 0 ∷ 1 ∷ 2 ∷ 3 ∷ 4 ∷ 5 ∷ 6 ∷ []
-unfolding rowOf rowIn
+rows-found : map (λ s. segmentRow (segmentNumber s)) segments ≡ 0 ∷ 1 ∷ 2 ∷ 3 ∷ 4 ∷ 5 ∷ 6 ∷ []
+unfolding segmentRow rowIn
 rows-found = refl

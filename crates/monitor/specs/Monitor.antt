@@ -6,16 +6,16 @@ use mathlib.Core.List.{List, [], _∷_}
 use lib.Dec.{eqb}
 use lib.ListN.{take, drop}
 use Rattle.bits.specs.Bits.{getBits}
-use Rattle.rates.specs.Rates.{lastSampleWord}
-use Rattle.record.specs.Answer.{Answer, unless}
-use Rattle.record.specs.Refusal.{_when_, first, _then_}
+use Rattle.sample_rates.specs.Rates.{lastSampleWord}
+use Rattle.answers.specs.Answer.{Answer, unless}
+use Rattle.answers.specs.Refusal.{_when_, first, _then_}
 use Rattle.record.specs.Record.{recordRefusal}
-use Rattle.record.specs.Stretch.{lineOf}
-use Rattle.monitor.specs.Segments.{rowOf, isNoRow, segmentAt, firstWord, wordCount}
+use Rattle.record.specs.Stretch.{recordRate}
+use Rattle.monitor.specs.Segments.{segmentRow, isNoRow, segmentAt, firstWord, wordCount}
 
 -- N of a record, by its own rate
 unfoldable pub lastSampleWordOf : List ℕ → ℕ
-lastSampleWordOf b = lastSampleWord (lineOf b)
+lastSampleWordOf b = lastSampleWord (recordRate b)
 
 -- the first byte of word w after N, w from 1
 abbrev pub monitorByte : List ℕ → ℕ → ℕ
@@ -51,4 +51,4 @@ rowAnswer this earlier row =
 
 -- by the segment's number
 unfoldable pub segmentAnswer : List ℕ → List ℕ → ℕ → Answer (List ℕ)
-segmentAnswer this earlier number = rowAnswer this earlier (rowOf number)
+segmentAnswer this earlier number = rowAnswer this earlier (segmentRow number)

@@ -46,8 +46,8 @@ unfoldable pub rowIn : List SegmentWords → ℕ → ℕ
 rowIn [] number = 0
 rowIn (s ∷ ss) number = cond (eqb (segmentNumber s) number) 0 (1 + rowIn ss number)
 
-unfoldable pub rowOf : ℕ → ℕ
-rowOf number = rowIn segments number
+unfoldable pub segmentRow : ℕ → ℕ
+segmentRow number = rowIn segments number
 
 -- past the last row: no row has the number
 abbrev pub isNoRow : ℕ → Bool

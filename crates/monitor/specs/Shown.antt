@@ -3,7 +3,7 @@ use Prim.Native.Nat.{ℕ, _-_, _≤_}
 use mathlib.Core.Path.{_≡_}
 use mathlib.Core.List.{List, []}
 use lib.ListN.{length, take, drop}
-use Rattle.record.specs.Answer.{Answer, accepted, refused}
+use Rattle.answers.specs.Answer.{Answer, accepted, refused}
 use Rattle.monitor.specs.declared.Stretch.{Stretch}
 use Rattle.monitor.specs.declared.Place.{Place}
 use Rattle.monitor.specs.declared.Place.the-variants.{This, Earlier, Refused}

@@ -4,7 +4,7 @@ ghost use mathlib.Core.Path.{_≡_};
 ghost use Prim.Native.Nat.{_+_, _*_, _≤_, _<_};
 ghost use lib.ListN.{length};
 ghost use Rattle.record.specs.Record.{recordRefusal};
-ghost use Rattle.monitor.specs.Segments.{rowOf, segmentAt, SoundWords};
+ghost use Rattle.monitor.specs.Segments.{segmentRow, segmentAt, SoundWords};
 ghost use Rattle.monitor.specs.Monitor.{lastSampleWordOf, rowAnswer, segmentAnswer};
 ghost use Rattle.monitor.specs.Shown.{StretchOf, shownPlace, Inside};
 
@@ -47,8 +47,8 @@ fn words_of(row: usize) -> SegmentWords
 }
 
 // The table's row, from 0, of a segment's number, or the count of rows where none has it.
-fn row_of(number: u64) -> usize
-    ensures { λ r. ⌜ (r ≡ rowOf number) × (r ≤ 7) ⌝ }
+fn segment_row(number: u64) -> usize
+    ensures { λ r. ⌜ (r ≡ segmentRow number) × (r ≤ 7) ⌝ }
 {
     let mut row: usize = 0;
     while row < SEGMENT_COUNT {
@@ -67,7 +67,7 @@ fn last_sample_word(bytes: &[u8]) -> usize
     ensures { λ r. ⌜ (r ≡ lastSampleWordOf (now (bytes .entry))) × (r ≤ 2040) × (2 * r + 300 ≤ length (now (bytes .entry))) ⌝ }
 {
     let h = header::read_fields(bytes);
-    let rate = rates::rate_of(h.sample_rate_hz);
+    let rate = sample_rates::sample_rate_of(h.sample_rate_hz);
     rate.3 as usize
 }
 
@@ -113,15 +113,15 @@ fn find_place(this: &[u8], earlier: &[u8], number: u64) -> Place
     ensures { λ r. ⌜ shownPlace r (now (this .entry)) (now (earlier .entry)) ≡ segmentAnswer (now (this .entry)) (now (earlier .entry)) number ⌝ }
     ensures { λ r. ⌜ Inside r (now (this .entry)) (now (earlier .entry)) ⌝ }
 {
-    let refusal = record::accept(this);
+    let refusal = record::refusal_of(this);
     if refusal != 0 {
         return Place::Refused(refusal);
     }
-    let earlier_refusal = record::accept(earlier);
+    let earlier_refusal = record::refusal_of(earlier);
     if earlier_refusal != 0 {
         return Place::Refused(earlier_refusal);
     }
-    let row = row_of(number);
+    let row = segment_row(number);
     if row == SEGMENT_COUNT {
         return Place::Refused(20);
     }

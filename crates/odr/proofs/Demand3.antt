@@ -1,21 +1,21 @@
 -- Demand 3 for the exported calls, as a caller in C keeps it: `odr_open` gave an answer whose refusal is 0; its member `opening`, and
--- nothing else, goes into every later call; and nobody but those calls writes to the cells. Then, after any list of calls of `odr_put`,
--- `odr_take_out`, `odr_ask` and `odr_test`, each has answered as the ledger does, every second of the window has the totals and the
+-- nothing else, goes into every later call; and nobody but those calls writes to the cells. Then, after any list of calls of `odr_insert`,
+-- `odr_remove`, `odr_query` and `odr_is_consistent`, each has answered as the ledger does, every second of the window has the totals and the
 -- verdict worked out from nothing over the records then held, the test says yes, and each call altered only what it may. What
 -- `odr_second_means` answers then is the ledger's too.
 --
--- `odr_open` promises what `promised` says, and the later calls promise to be the `putRefusal`, `putRows`, `askAnswer` and so on that
+-- `odr_open` promises what `promised` says, and the later calls promise to be the `insertRefusal`, `insertRows`, `queryAnswer` and so on that
 -- a history is made of, with the opening that they are given. Assumes nothing.
 use Prim.Native.Nat.{ℕ}
 use mathlib.Core.Path.{_≡_, ap, sym, _∙_, subst}
 use mathlib.Core.Bool.{true}
 use mathlib.Core.List.{List}
-use Rattle.record.specs.Answer.{accepted, told}
-use Rattle.record.proofs.Refusals.{given-value}
+use Rattle.answers.specs.Answer.{accepted, told}
+use Rattle.answers.proofs.Refusals.{given-value}
 use Rattle.index_model.specs.declared.Opening.{Opening}
 use Rattle.index_model.specs.Opening.{openingOf, noOpening, openRefusal, openAnswer}
 use Rattle.index_model.specs.Ledger.{Call, noRecords}
-use Rattle.index_model.specs.Calls.{testAnswer}
+use Rattle.index_model.specs.Calls.{consistencyAnswer}
 use Rattle.index_model.specs.History.{Cells, after, ledgerAfter}
 use Rattle.index_model.proofs.Opened.{returned}
 use Rattle.index_model.proofs.Demand3.{Demand3, opened, demand3, SaysYes, test-says-yes}
@@ -43,7 +43,7 @@ module _ (pattern : List ℕ) (F C R : ℕ) (rows seconds : List ℕ)
   abbrev pub end : Cells
   end = after (r .opening) calls (opened pattern F C R rows seconds)
 
-  pub exported-test : testAnswer (r .opening) (end .rows) (end .seconds) ≡ accepted true
+  pub exported-test : consistencyAnswer (r .opening) (end .rows) (end .seconds) ≡ accepted true
   exported-test = subst (SaysYes pattern F C R rows seconds (given .0) calls) same (test-says-yes pattern F C R rows seconds (given .0) calls)
 
   pub exported-means : (s : ℕ) → meansAnswer (r .opening) s (end .rows) (end .seconds) ≡ ledgerMeansAnswer (r .opening) (ledgerAfter (r .opening) calls noRecords) s

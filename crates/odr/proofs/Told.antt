@@ -5,8 +5,8 @@ use mathlib.Core.Bool.{Bool}
 use mathlib.Core.List.{List}
 use lib.Ieee.{Float}
 use lib.ListN.{getD}
-use Rattle.record.specs.Answer.{Answer, refused, told, unless}
-use Rattle.record.proofs.Refusals.{refused-some}
+use Rattle.answers.specs.Answer.{Answer, refused, told, unless}
+use Rattle.answers.proofs.Refusals.{refused-some}
 use Rattle.listing.specs.declared.ListAnswer.{ListAnswer}
 use Rattle.listing.specs.declared.ListAnswer.the-variants as ListAnswer
 use Rattle.listing.specs.Shown.{shownList}

@@ -8,7 +8,7 @@ use lib.IntN.{pos}
 use lib.Ieee.{Float, fin}
 use lib.ListN.{length, getD}
 use Rattle.lists.specs.Fill.{tab}
-use Rattle.record.specs.Answer.{Answer}
+use Rattle.answers.specs.Answer.{Answer}
 use Rattle.reel.specs.Reel.{Found, accepted, finished, refused}
 use Rattle.odr.specs.declared.PhasesOut.{PhasesOut}
 use Rattle.odr.specs.declared.SegmentOut.{SegmentOut}

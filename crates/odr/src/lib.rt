@@ -5,29 +5,29 @@ ghost use mathlib.Core.Path.{_≡_};
 ghost use lib.ListN.{length, getD};
 ghost use Rattle.lists.specs.Fill.{tab};
 ghost use Rattle.header.specs.Header.{named};
-ghost use Rattle.record.specs.Answer.{told};
+ghost use Rattle.answers.specs.Answer.{told};
 ghost use Rattle.record.specs.Record.{recordRefusal, headerAnswer, writeRefusal, afterWriting};
-ghost use Rattle.record.specs.FrequencyRate.{rateAnswer};
-ghost use Rattle.samples.specs.InOut.{samplesRefusal, bufferAfter, recordAfter};
+ghost use Rattle.record.specs.FrequencyRate.{frequencyRateAnswer};
+ghost use Rattle.samples.specs.InOut.{samplesRefusal, channelAfter, recordAfter};
 ghost use Rattle.samples.specs.Totals.{totalsAnswer, shownTotals};
 ghost use Rattle.times.specs.SampleTime.{timeAnswer};
 ghost use Rattle.times.specs.Phases.{phaseAnswer};
 ghost use Rattle.monitor.specs.Monitor.{segmentAnswer};
 ghost use Rattle.reel.specs.Reel.{stepAt};
 ghost use Rattle.index_model.specs.Opening.{openAnswer, openRows, openSeconds};
-ghost use Rattle.index_model.specs.Calls.{putRefusal, putRows, putSeconds, takeRefusal, takeRows, takeSeconds, askAnswer, testAnswer};
-ghost use Rattle.index_ask.specs.Shown.{shownSecond};
+ghost use Rattle.index_model.specs.Calls.{insertRefusal, insertRows, insertSeconds, removeRefusal, removeRows, removeSeconds, queryAnswer, consistencyAnswer};
+ghost use Rattle.index_query.specs.Shown.{shownSecond};
 ghost use Rattle.index_means.specs.Means.{meansAnswer};
 ghost use Rattle.index_means.specs.Shown.{shownMeans};
 ghost use Rattle.listing.specs.Listing.{lineAnswer, lineAfter, listAnswer, listAfter};
 ghost use Rattle.odr.specs.Out.{valueOr, longestSegment, PhasesTold, SegmentTold, StepTold, textOut};
-use index_ask::SecondAnswer;
-use index_ask::TestAnswer;
+use index_query::SecondAnswer;
+use index_query::ConsistencyAnswer;
 use index_means::MeansAnswer;
 use index_model::Opening;
 use index_open::OpenAnswer;
 use listing::ListAnswer;
-use record::RateAnswer;
+use record::FrequencyRateAnswer;
 use reel::Step;
 use samples::TotalsAnswer;
 use times::PhaseAnswer;
@@ -42,7 +42,7 @@ const LONGEST_SEGMENT: usize = 90;
 // ## What comes back
 
 #[repr(C)]
-pub struct RateOut {
+pub struct FrequencyRateOut {
     pub refusal: u8,
     pub units: i64,
 }
@@ -83,7 +83,7 @@ pub struct OpenOut {
 }
 
 #[repr(C)]
-pub struct TestOut {
+pub struct ConsistencyOut {
     pub refusal: u8,
     pub consistent: bool,
 }
@@ -97,10 +97,10 @@ pub struct TextOut {
 // ## Records
 
 #[no_mangle]
-pub extern "C" fn odr_accept(bytes: &[u8]) -> u8
+pub extern "C" fn odr_refusal(bytes: &[u8]) -> u8
     ensures { λ r. ⌜ r ≡ recordRefusal (now (bytes .entry)) ⌝ }
 {
-    record::accept(bytes)
+    record::refusal_of(bytes)
 }
 
 // The values as they are read, not by way of a `Header`, which would be copied twice.
@@ -109,7 +109,7 @@ pub extern "C" fn odr_read_header(bytes: &[u8], values: &mut [u64; 46]) -> u8
     ensures { λ r. ⌜ r ≡ headerAnswer (now (bytes .entry)) .number ⌝ }
     ensures { λ _. ⌜ now (values .exit) ≡ valueOr (now (values .entry)) (headerAnswer (now (bytes .entry))) ⌝ }
 {
-    let n = record::accept(bytes);
+    let n = record::refusal_of(bytes);
     if n != 0 {
         return n;
     }
@@ -126,12 +126,12 @@ pub extern "C" fn odr_write_header(bytes: &mut [u8], values: &[u64; 46]) -> u8
 }
 
 #[no_mangle]
-pub extern "C" fn odr_frequency_rate(bytes: &[u8]) -> RateOut
-    ensures { λ r. ⌜ told (r .refusal) (r .units) ≡ rateAnswer (now (bytes .entry)) ⌝ }
+pub extern "C" fn odr_frequency_rate(bytes: &[u8]) -> FrequencyRateOut
+    ensures { λ r. ⌜ told (r .refusal) (r .units) ≡ frequencyRateAnswer (now (bytes .entry)) ⌝ }
 {
     match record::frequency_rate(bytes) {
-        RateAnswer::Units(units) => RateOut { refusal: 0, units },
-        RateAnswer::Refused(refusal) => RateOut { refusal, units: 0 },
+        FrequencyRateAnswer::Units(units) => FrequencyRateOut { refusal: 0, units },
+        FrequencyRateAnswer::Refused(refusal) => FrequencyRateOut { refusal, units: 0 },
     }
 }
 
@@ -178,10 +178,10 @@ pub extern "C" fn odr_read_samples(
     four: &mut [i8],
 ) -> u8
     ensures { λ r. ⌜ r ≡ samplesRefusal (now (bytes .entry)) (length (now (one .entry))) (length (now (two .entry))) (length (now (three .entry))) (length (now (four .entry))) ⌝ }
-    ensures { λ r. ⌜ now (one .exit) ≡ bufferAfter r (now (bytes .entry)) 1 (now (one .entry)) ⌝ }
-    ensures { λ r. ⌜ now (two .exit) ≡ bufferAfter r (now (bytes .entry)) 2 (now (two .entry)) ⌝ }
-    ensures { λ r. ⌜ now (three .exit) ≡ bufferAfter r (now (bytes .entry)) 3 (now (three .entry)) ⌝ }
-    ensures { λ r. ⌜ now (four .exit) ≡ bufferAfter r (now (bytes .entry)) 4 (now (four .entry)) ⌝ }
+    ensures { λ r. ⌜ now (one .exit) ≡ channelAfter r (now (bytes .entry)) 1 (now (one .entry)) ⌝ }
+    ensures { λ r. ⌜ now (two .exit) ≡ channelAfter r (now (bytes .entry)) 2 (now (two .entry)) ⌝ }
+    ensures { λ r. ⌜ now (three .exit) ≡ channelAfter r (now (bytes .entry)) 3 (now (three .entry)) ⌝ }
+    ensures { λ r. ⌜ now (four .exit) ≡ channelAfter r (now (bytes .entry)) 4 (now (four .entry)) ⌝ }
 {
     samples::read_samples(bytes, one, two, three, four)
 }
@@ -320,43 +320,43 @@ pub extern "C" fn odr_open(
 }
 
 #[no_mangle]
-pub extern "C" fn odr_put(
+pub extern "C" fn odr_insert(
     opening: Opening,
     bytes: &[u8],
     rows: &mut [u32],
     seconds: &mut [u32],
 ) -> u8
-    ensures { λ r. ⌜ r ≡ putRefusal opening (now (bytes .entry)) (now (rows .entry)) (now (seconds .entry)) ⌝ }
-    ensures { λ _. ⌜ now (rows .exit) ≡ putRows opening (now (bytes .entry)) (now (rows .entry)) (now (seconds .entry)) ⌝ }
-    ensures { λ _. ⌜ now (seconds .exit) ≡ putSeconds opening (now (bytes .entry)) (now (rows .entry)) (now (seconds .entry)) ⌝ }
+    ensures { λ r. ⌜ r ≡ insertRefusal opening (now (bytes .entry)) (now (rows .entry)) (now (seconds .entry)) ⌝ }
+    ensures { λ _. ⌜ now (rows .exit) ≡ insertRows opening (now (bytes .entry)) (now (rows .entry)) (now (seconds .entry)) ⌝ }
+    ensures { λ _. ⌜ now (seconds .exit) ≡ insertSeconds opening (now (bytes .entry)) (now (rows .entry)) (now (seconds .entry)) ⌝ }
 {
-    index::put(opening, bytes, rows, seconds)
+    index_update::insert(opening, bytes, rows, seconds)
 }
 
 #[no_mangle]
-pub extern "C" fn odr_take_out(
+pub extern "C" fn odr_remove(
     opening: Opening,
     number: u64,
     rows: &mut [u32],
     seconds: &mut [u32],
 ) -> u8
-    ensures { λ r. ⌜ r ≡ takeRefusal opening number (now (rows .entry)) (now (seconds .entry)) ⌝ }
-    ensures { λ _. ⌜ now (rows .exit) ≡ takeRows opening number (now (rows .entry)) (now (seconds .entry)) ⌝ }
-    ensures { λ _. ⌜ now (seconds .exit) ≡ takeSeconds opening number (now (rows .entry)) (now (seconds .entry)) ⌝ }
+    ensures { λ r. ⌜ r ≡ removeRefusal opening number (now (rows .entry)) (now (seconds .entry)) ⌝ }
+    ensures { λ _. ⌜ now (rows .exit) ≡ removeRows opening number (now (rows .entry)) (now (seconds .entry)) ⌝ }
+    ensures { λ _. ⌜ now (seconds .exit) ≡ removeSeconds opening number (now (rows .entry)) (now (seconds .entry)) ⌝ }
 {
-    index::take_out(opening, number, rows, seconds)
+    index_update::remove(opening, number, rows, seconds)
 }
 
 #[no_mangle]
-pub extern "C" fn odr_ask(
+pub extern "C" fn odr_query(
     opening: Opening,
     second: u64,
     rows: &[u32],
     seconds: &[u32],
 ) -> SecondAnswer
-    ensures { λ r. ⌜ shownSecond r ≡ askAnswer opening second (now (rows .entry)) (now (seconds .entry)) ⌝ }
+    ensures { λ r. ⌜ shownSecond r ≡ queryAnswer opening second (now (rows .entry)) (now (seconds .entry)) ⌝ }
 {
-    index_ask::ask(opening, second, rows, seconds)
+    index_query::query(opening, second, rows, seconds)
 }
 
 #[no_mangle]
@@ -372,15 +372,15 @@ pub extern "C" fn odr_second_means(
 }
 
 #[no_mangle]
-pub extern "C" fn odr_test(opening: Opening, rows: &[u32], seconds: &[u32]) -> TestOut
-    ensures { λ r. ⌜ told (r .refusal) (r .consistent) ≡ testAnswer opening (now (rows .entry)) (now (seconds .entry)) ⌝ }
+pub extern "C" fn odr_is_consistent(opening: Opening, rows: &[u32], seconds: &[u32]) -> ConsistencyOut
+    ensures { λ r. ⌜ told (r .refusal) (r .consistent) ≡ consistencyAnswer opening (now (rows .entry)) (now (seconds .entry)) ⌝ }
 {
-    match index_ask::test(opening, rows, seconds) {
-        TestAnswer::Consistent(consistent) => TestOut {
+    match index_query::is_consistent(opening, rows, seconds) {
+        ConsistencyAnswer::Consistent(consistent) => ConsistencyOut {
             refusal: 0,
             consistent,
         },
-        TestAnswer::Refused(refusal) => TestOut {
+        ConsistencyAnswer::Refused(refusal) => ConsistencyOut {
             refusal,
             consistent: false,
         },

@@ -15,26 +15,26 @@ use Rattle.fields.proofs.Tables.{values-fit, fit-at}
 use Rattle.header.specs.declared.Header.{Header}
 use Rattle.header.specs.Format.{fields}
 use Rattle.header.specs.Header.{headerOf}
-use Rattle.rates.specs.Rates.{rateOf, rateHz, samplesPerRecord, wordsA, wordsB}
-use Rattle.rates.proofs.Lines.{SoundLine, rate-line}
-use Rattle.record.specs.Refusal.{first}
+use Rattle.sample_rates.specs.Rates.{sampleRateOf, rateHz, samplesPerRecord, wordsA, wordsB}
+use Rattle.sample_rates.proofs.Lines.{SoundLine, rate-line}
+use Rattle.answers.specs.Refusal.{first}
 use Rattle.record.specs.Record.{checks, recordRefusal, lastMs}
-use Rattle.record.proofs.Refusals.{noCheck, none-applies}
+use Rattle.answers.proofs.Refusals.{noCheck, none-applies}
 
 -- what 1 to 11 leave, for n bytes with the header h
 pub record Accepted (n : ℕ) (h : Header) (decimals : Bool) : Type 0 where
   pub long : 80 ≤ n
   pub words : n ≡ 2 * h .«length_words»
-  pub line : SoundLine (h .«sample_rate_hz») (rateOf (h .«sample_rate_hz»))
-  pub size : (h .«length_words» ≡ wordsB (rateOf (h .«sample_rate_hz»))) ⊎ (h .«length_words» ≡ wordsA (rateOf (h .«sample_rate_hz»)))
+  pub line : SoundLine (h .«sample_rate_hz») (sampleRateOf (h .«sample_rate_hz»))
+  pub size : (h .«length_words» ≡ wordsB (sampleRateOf (h .«sample_rate_hz»))) ⊎ (h .«length_words» ≡ wordsA (sampleRateOf (h .«sample_rate_hz»)))
   pub year : h .year ≤ 99
   pub tag : h .«time_tag_ms» ≤ lastMs
   pub good : decimals ≡ true
 
 -- a rate that 5 accepts has a line
-has-line : (hz : ℕ) → eqb (rateHz (rateOf hz)) 0 ≡ false → SoundLine hz (rateOf hz)
+has-line : (hz : ℕ) → eqb (rateHz (sampleRateOf hz)) 0 ≡ false → SoundLine hz (sampleRateOf hz)
 has-line hz e =
-    ⊎-elim (λ z. absurd (eqb-false (rateHz (rateOf hz)) 0 e (ap rateHz z))) (λ s. s) (rate-line hz)
+    ⊎-elim (λ z. absurd (eqb-false (rateHz (sampleRateOf hz)) 0 e (ap rateHz z))) (λ s. s) (rate-line hz)
 
 module _ (n : ℕ) (h : Header) (decimals : Bool) (e : first (checks n h decimals) ≡ 0) where
   at : (k : ℕ) → getD (checks n h decimals) k noCheck .applies ≡ false
@@ -60,7 +60,7 @@ module _ (b : List ℕ) (e : recordRefusal b ≡ 0) where
   record-facts = accepted-facts (length b) (headerOf b) (allDigitsGood fields b) e
 
   -- the sample stretch, from byte 80, and the 150 monitor words after it lie within the record
-  pub stretch-inside : 80 + 4 * samplesPerRecord (rateOf (headerOf b .«sample_rate_hz»)) + 300 ≤ length b
+  pub stretch-inside : 80 + 4 * samplesPerRecord (sampleRateOf (headerOf b .«sample_rate_hz»)) + 300 ≤ length b
   stretch-inside =
       let f = record-facts in
       let l = f .line in

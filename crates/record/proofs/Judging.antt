@@ -9,7 +9,7 @@ use Rattle.fields.specs.Table.{allDigitsGood, allFit}
 use Rattle.header.specs.declared.Header.{Header}
 use Rattle.header.specs.Format.{fields}
 use Rattle.header.specs.Header.{values, headerOf}
-use Rattle.record.specs.Refusal.{first}
+use Rattle.answers.specs.Refusal.{first}
 use Rattle.record.specs.Record.{checks, recordRefusal}
 
 pub of-bytes : (b : List ℕ) {n : ℕ} {h : Header} {d : Bool} → n ≡ first (checks (length b) h d) → h ≡ headerOf b → d ≡ allDigitsGood fields b → n ≡ recordRefusal b

@@ -1,4 +1,3 @@
-pub mod Refusals
 pub mod Length
 pub mod Judging
 pub mod Accepted

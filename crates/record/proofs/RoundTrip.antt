@@ -18,12 +18,12 @@ use Rattle.header.specs.declared.Header.{Header}
 use Rattle.header.specs.Format.{fields}
 use Rattle.header.specs.Header.{values, named, headerOf}
 use Rattle.header.proofs.Sound.{fields-sound, values-header}
-use Rattle.record.specs.Answer.{accepted}
-use Rattle.record.specs.Refusal.{_when_, first}
+use Rattle.answers.specs.Answer.{accepted}
+use Rattle.answers.specs.Refusal.{_when_, first}
 use Rattle.record.specs.declared.HeaderAnswer.the-variants as HeaderAnswer
 use Rattle.record.specs.Shown.{shownHeader}
 use Rattle.record.specs.Record.{checks, recordRefusal, headerAnswer, writeRefusal, afterWriting}
-use Rattle.record.proofs.Refusals.{then-none, then-zero, cond-none, unless-none, given-value, none-applies}
+use Rattle.answers.proofs.Refusals.{then-none, then-zero, cond-none, unless-none, given-value, none-applies}
 use Rattle.record.proofs.Accepted.{Accepted, accepted-facts, record-facts}
 
 -- ## a header that is not refused

@@ -10,7 +10,7 @@ use mir.Syntax.{w64}
 use mir.Val.{SFits, toZ, ofZ}
 use mir.ValLaws.{toZ-pos, toZ-ofZ}
 use borrow.Author.Tests.{eq-eqb, ne-eqb}
-use Rattle.record.specs.FrequencyRate.{rateUnits}
+use Rattle.record.specs.FrequencyRate.{frequencyRateUnits}
 
 -- five digits times a power of ten below 8
 pub size-bound : (d t : ℕ) → d < 100000 → t ≤ 10000000 → d * t ≤ 999990000000
@@ -35,12 +35,12 @@ module _ (x : ℕ) (h : x ≤ 999990000000) where
 
 -- by the sign bit
 module _ (d m s t : ℕ) (e : t ≡ 10 ^ m) where
-  shown : (b : Bool) → eqb s 1 ≡ b → cond b (pos (d * t)) (negℤ (pos (d * t))) ≡ rateUnits d m s
-  unfolding rateUnits
+  shown : (b : Bool) → eqb s 1 ≡ b → cond b (pos (d * t)) (negℤ (pos (d * t))) ≡ frequencyRateUnits d m s
+  unfolding frequencyRateUnits
   shown b a = (λ i. cond (sym a i) (pos (d * e i)) (negℤ (pos (d * e i))))
 
-  pub units-positive : s ≡ 1 → pos (d * t) ≡ rateUnits d m s
+  pub units-positive : s ≡ 1 → pos (d * t) ≡ frequencyRateUnits d m s
   units-positive a = shown _ (eq-eqb s 1 a)
 
-  pub units-negative : (s ≡ 1 → ⊥) → negℤ (pos (d * t)) ≡ rateUnits d m s
+  pub units-negative : (s ≡ 1 → ⊥) → negℤ (pos (d * t)) ≡ frequencyRateUnits d m s
   units-negative a = shown _ (ne-eqb s 1 a)

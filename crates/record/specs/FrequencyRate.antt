@@ -7,16 +7,16 @@ use lib.Dec.{eqb}
 use lib.IntN.{ℤ, pos, negℤ}
 use Rattle.header.specs.declared.Header.{Header}
 use Rattle.header.specs.Header.{headerOf}
-use Rattle.record.specs.Answer.{Answer, unless}
+use Rattle.answers.specs.Answer.{Answer, unless}
 use Rattle.record.specs.Record.{recordRefusal}
 
 -- by digits, power and sign bit
-unfoldable pub rateUnits : ℕ → ℕ → ℕ → ℤ
-rateUnits digits power sign = cond (eqb sign 1) (pos (digits * 10 ^ power)) (negℤ (pos (digits * 10 ^ power)))
+unfoldable pub frequencyRateUnits : ℕ → ℕ → ℕ → ℤ
+frequencyRateUnits digits power sign = cond (eqb sign 1) (pos (digits * 10 ^ power)) (negℤ (pos (digits * 10 ^ power)))
 
 abbrev pub headerRate : Header → ℤ
-headerRate h = rateUnits (h .«rate_digits») (h .«rate_power») (h .«rate_sign»)
+headerRate h = frequencyRateUnits (h .«rate_digits») (h .«rate_power») (h .«rate_sign»)
 
 -- of a record, or its refusal
-unfoldable pub rateAnswer : List ℕ → Answer ℤ
-rateAnswer b = unless (recordRefusal b) (pos 0) (headerRate (headerOf b))
+unfoldable pub frequencyRateAnswer : List ℕ → Answer ℤ
+frequencyRateAnswer b = unless (recordRefusal b) (pos 0) (headerRate (headerOf b))

@@ -1,5 +1,3 @@
-pub mod Answer
-pub mod Refusal
 pub mod Record
 pub mod FrequencyRate
 pub mod Shown

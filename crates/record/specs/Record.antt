@@ -9,10 +9,10 @@ use Rattle.fields.specs.Table.{readAll, writeAll, allDigitsGood, allFit}
 use Rattle.header.specs.declared.Header.{Header}
 use Rattle.header.specs.Format.{fields}
 use Rattle.header.specs.Header.{values, headerOf}
-use Rattle.rates.specs.declared.Rate.{Rate}
-use Rattle.rates.specs.Rates.{rateOf, isNoRate, wordsA, wordsB}
-use Rattle.record.specs.Answer.{Answer, unless}
-use Rattle.record.specs.Refusal.{Check, _when_, first, _then_}
+use Rattle.sample_rates.specs.declared.SampleRate.{SampleRate}
+use Rattle.sample_rates.specs.Rates.{sampleRateOf, isNoRate, wordsA, wordsB}
+use Rattle.answers.specs.Answer.{Answer, unless}
+use Rattle.answers.specs.Refusal.{Check, _when_, first, _then_}
 
 -- bytes of the header, the last millisecond of a day, and the sync word A55A hex
 abbrev pub headerBytes : ℕ
@@ -21,11 +21,11 @@ headerBytes = 80
 abbrev pub lastMs : ℕ
 lastMs = 86399999
 
-abbrev pub syncWord : ℕ
-syncWord = 42330
+abbrev pub syncPattern : ℕ
+syncPattern = 42330
 
 -- 1 to 11 for a record of n bytes: the line of its rate, the values of its header, and whether its decimal fields are decimal
-abbrev pub checksOn : Rate → (n words conversion compression tape number year day tag readbackTag : ℕ) → Bool → (origin sync : ℕ) → List Check
+abbrev pub checksOn : SampleRate → (n words conversion compression tape number year day tag readbackTag : ℕ) → Bool → (origin sync : ℕ) → List Check
 checksOn rate n words conversion compression tape number year day tag readbackTag decimals origin sync =
     1 when ltb n headerBytes ∷
     2 when not (eqb n (2 * words)) ∷
@@ -37,16 +37,16 @@ checksOn rate n words conversion compression tape number year day tag readbackTa
     8 when (ltb 99 year || (eqb day 0 || ltb 366 day)) ∷
     9 when (ltb lastMs tag || ltb lastMs readbackTag) ∷
     10 when not decimals ∷
-    11 when (eqb origin 1 && not (eqb sync syncWord)) ∷
+    11 when (eqb origin 1 && not (eqb sync syncPattern)) ∷
     []
 
-abbrev pub checksBy : Rate → ℕ → Header → Bool → List Check
+abbrev pub checksBy : SampleRate → ℕ → Header → Bool → List Check
 checksBy rate n h decimals =
     checksOn rate n (h .«length_words») (h .conversion) (h .compression) (h .«tape_number») (h .«record_number») (h .year) (h .day)
     (h .«time_tag_ms») (h .«readback_tag_ms») decimals (h .«clock_origin») (h .«sync_word»)
 
 abbrev pub checks : ℕ → Header → Bool → List Check
-checks n h decimals = checksBy (rateOf (h .«sample_rate_hz»)) n h decimals
+checks n h decimals = checksBy (sampleRateOf (h .«sample_rate_hz»)) n h decimals
 
 -- the refusal of the bytes b as a record, or 0
 unfoldable pub recordRefusal : List ℕ → ℕ

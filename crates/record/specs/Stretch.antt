@@ -4,17 +4,17 @@ use Prim.Native.Nat.{ℕ, _+_, _*_}
 use mathlib.Core.List.{List, _++_}
 use lib.ListN.{take, drop}
 use Rattle.header.specs.Header.{headerOf}
-use Rattle.rates.specs.declared.Rate.{Rate}
-use Rattle.rates.specs.Rates.{rateOf, samplesPerRecord}
+use Rattle.sample_rates.specs.declared.SampleRate.{SampleRate}
+use Rattle.sample_rates.specs.Rates.{sampleRateOf, samplesPerRecord}
 use Rattle.record.specs.Record.{headerBytes}
 
 -- the line of the rate in word 37
-unfoldable pub lineOf : List ℕ → Rate
-lineOf b = rateOf (headerOf b .«sample_rate_hz»)
+unfoldable pub recordRate : List ℕ → SampleRate
+recordRate b = sampleRateOf (headerOf b .«sample_rate_hz»)
 
 -- the samples that each channel has in the record
 abbrev pub sampleCount : List ℕ → ℕ
-sampleCount b = samplesPerRecord (lineOf b)
+sampleCount b = samplesPerRecord (recordRate b)
 
 -- the sample stretch: from byte 80, four bytes for each sample of a channel
 unfoldable pub stretchOf : List ℕ → List ℕ

@@ -6,11 +6,11 @@ ghost use mathlib.Core.List.{[], _∷_};
 ghost use Prim.Native.Nat.{_+_, _*_, _^_, _≤_, _<_};
 ghost use lib.Dec.{eqb};
 ghost use lib.ListN.{length};
-ghost use Rattle.rates.specs.Rates.{rateOf};
-ghost use Rattle.record.specs.Refusal.{_when_, first, _then_};
+ghost use Rattle.sample_rates.specs.Rates.{sampleRateOf};
+ghost use Rattle.answers.specs.Refusal.{_when_, first, _then_};
 ghost use Rattle.record.specs.Record.{checksOn, checks, recordRefusal, headerAnswer, writeRefusal, afterWriting};
-ghost use Rattle.record.specs.FrequencyRate.{rateUnits, rateAnswer};
-ghost use Rattle.record.specs.Shown.{shownHeader, shownRate};
+ghost use Rattle.record.specs.FrequencyRate.{frequencyRateUnits, frequencyRateAnswer};
+ghost use Rattle.record.specs.Shown.{shownHeader, shownFrequencyRate};
 use header::Header;
 
 // Bytes of the header.
@@ -20,7 +20,7 @@ pub const HEADER_BYTES: usize = 80;
 const LAST_MS: u64 = 86_399_999;
 
 // A55A hex.
-const SYNC_WORD: u64 = 42_330;
+const SYNC_PATTERN: u64 = 42_330;
 
 // A header that was read, or the refusal.
 pub enum HeaderAnswer {
@@ -29,19 +29,9 @@ pub enum HeaderAnswer {
 }
 
 // The frequency rate in units of 0.00001 Hz/s, or the refusal.
-pub enum RateAnswer {
+pub enum FrequencyRateAnswer {
     Units(i64),
     Refused(u8),
-}
-
-// The refusal n, or where that is 0 the refusal m.
-pub fn first_refusal(n: u8, m: u8) -> u8
-    ensures { λ r. ⌜ r ≡ n then m ⌝ }
-{
-    if n != 0 {
-        return n;
-    }
-    m
 }
 
 // Whether a length in bytes is not twice a length in words; no product, so that no number of words can wrap.
@@ -121,9 +111,9 @@ fn judge_values(
     origin: u64,
     sync: u64,
 ) -> u8
-    ensures { λ r. ⌜ r ≡ first (checksOn (rateOf hz) bytes words conversion compression tape number year day tag «readback_tag» decimals origin sync) ⌝ }
+    ensures { λ r. ⌜ r ≡ first (checksOn (sampleRateOf hz) bytes words conversion compression tape number year day tag «readback_tag» decimals origin sync) ⌝ }
 {
-    let rate = rates::rate_of(hz);
+    let rate = sample_rates::sample_rate_of(hz);
     first_of(
         bytes < HEADER_BYTES,
         wrong_length(bytes, words),
@@ -135,7 +125,7 @@ fn judge_values(
         (year > 99) | ((day == 0) | (day > 366)),
         (tag > LAST_MS) | (readback_tag > LAST_MS),
         !decimals,
-        (origin == 1) & (sync != SYNC_WORD),
+        (origin == 1) & (sync != SYNC_PATTERN),
     )
 }
 
@@ -185,7 +175,7 @@ fn judge_bytes(bytes: &[u8]) -> u8
 
 // The refusal of the bytes as a record, 1 to 11, or 0 where they are accepted. The length is tested first, so that no field past
 // this test has to be.
-pub fn accept(bytes: &[u8]) -> u8
+pub fn refusal_of(bytes: &[u8]) -> u8
     ensures { λ r. ⌜ r ≡ recordRefusal (now (bytes .entry)) ⌝ }
 {
     if bytes.len() < HEADER_BYTES {
@@ -198,7 +188,7 @@ pub fn accept(bytes: &[u8]) -> u8
 pub fn read_header(bytes: &[u8]) -> HeaderAnswer
     ensures { λ r. ⌜ shownHeader r ≡ headerAnswer (now (bytes .entry)) ⌝ }
 {
-    let n = accept(bytes);
+    let n = refusal_of(bytes);
     if n == 0 {
         return HeaderAnswer::Accepted(header::read_fields(bytes));
     }
@@ -247,9 +237,9 @@ fn ten_to(power: u64) -> u64
 }
 
 // The rate by its digits, power and sign bit.
-fn rate_units(digits: u64, power: u64, sign: u64) -> i64
+fn frequency_rate_units(digits: u64, power: u64, sign: u64) -> i64
     requires { ⌜ (digits < 100000) × (power < 8) ⌝ }
-    ensures { λ r. ⌜ r ≡ rateUnits digits power sign ⌝ }
+    ensures { λ r. ⌜ r ≡ frequencyRateUnits digits power sign ⌝ }
 {
     let size = (digits * ten_to(power)) as i64;
     if sign == 1 {
@@ -259,13 +249,13 @@ fn rate_units(digits: u64, power: u64, sign: u64) -> i64
 }
 
 // The frequency rate of a record.
-pub fn frequency_rate(bytes: &[u8]) -> RateAnswer
-    ensures { λ r. ⌜ shownRate r ≡ rateAnswer (now (bytes .entry)) ⌝ }
+pub fn frequency_rate(bytes: &[u8]) -> FrequencyRateAnswer
+    ensures { λ r. ⌜ shownFrequencyRate r ≡ frequencyRateAnswer (now (bytes .entry)) ⌝ }
 {
-    let n = accept(bytes);
+    let n = refusal_of(bytes);
     if n != 0 {
-        return RateAnswer::Refused(n);
+        return FrequencyRateAnswer::Refused(n);
     }
     let h = header::read_fields(bytes);
-    RateAnswer::Units(rate_units(h.rate_digits, h.rate_power, h.rate_sign))
+    FrequencyRateAnswer::Units(frequency_rate_units(h.rate_digits, h.rate_power, h.rate_sign))
 }

@@ -9,7 +9,7 @@ use lib.ListN.{length, take, drop, take-append-drop, length-drop, length-append}
 use lib.Seq.{drop-drop}
 use borrow.Author.Tests.{le-leb, lt-leb, leb-true, leb-false, eqb-true, eqb-false}
 use Rattle.record.specs.Record.{headerBytes, recordRefusal}
-use Rattle.record.proofs.Refusals.{cond-none, cond-some}
+use Rattle.answers.proofs.Refusals.{cond-none, cond-some}
 use Rattle.reel.specs.Reel.{Found, accepted, finished, refused, wordThree, restRefusal, foundIn, stepAt, bytesFound, placeAfter, recordAt, nextPlace}
 use Rattle.reel.specs.Walk.{isRecord}
 use Rattle.reel.proofs.Rest.{whole, rest-number, accepted-size, front-size, front-accepted}

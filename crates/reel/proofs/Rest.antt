@@ -17,9 +17,9 @@ use Rattle.fields.specs.Field.{valueOf}
 use Rattle.fields.specs.Table.{allDigitsGood}
 use Rattle.header.specs.Format.{fields}
 use Rattle.header.specs.Header.{headerOf}
-use Rattle.record.specs.Refusal.{Check, first}
+use Rattle.answers.specs.Refusal.{Check, first}
 use Rattle.record.specs.Record.{headerBytes, recordRefusal, checks}
-use Rattle.record.proofs.Refusals.{none-applies, then-none, then-zero}
+use Rattle.answers.proofs.Refusals.{none-applies, then-none, then-zero}
 use Rattle.record.proofs.Accepted.{record-facts}
 use Rattle.reel.specs.Reel.{headerWords, wordThree, restChecks, restRefusal}
 

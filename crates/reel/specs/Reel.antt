@@ -7,7 +7,7 @@ use mathlib.Core.List.{List, [], _∷_}
 use lib.Dec.{eqb, leb, ltb}
 use lib.ListN.{length, take, drop}
 use Rattle.fields.specs.Field.{word_, valueOf}
-use Rattle.record.specs.Refusal.{Check, _when_, first, _then_}
+use Rattle.answers.specs.Refusal.{Check, _when_, first, _then_}
 use Rattle.record.specs.Record.{headerBytes, recordRefusal}
 
 -- words of the header

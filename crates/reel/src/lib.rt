@@ -39,7 +39,7 @@ fn rest_refusal(rest: &[u8]) -> u8
     if rest.len() < size {
         return 2;
     }
-    record::accept(&rest[..size])
+    record::refusal_of(&rest[..size])
 }
 
 // What stands at the place.

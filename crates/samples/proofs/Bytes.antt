@@ -11,7 +11,7 @@ use Rattle.lists.proofs.Fill.{over-low}
 use Rattle.channels.specs.Sample.{signedOf, sampleOf}
 use Rattle.record.specs.Record.{headerBytes}
 use Rattle.record.specs.Stretch.{sampleCount, stretchOf}
-use Rattle.samples.specs.InOut.{bufferAfter}
+use Rattle.samples.specs.InOut.{channelAfter}
 
 module _ (b : List ℕ) (c k : ℕ) (above : 1 ≤ c) (below : c ≤ 4) (within : k < sampleCount b) where
   -- sample k of channel c of the record's stretch
@@ -24,6 +24,6 @@ module _ (b : List ℕ) (c k : ℕ) (above : 1 ≤ c) (below : c ≤ 4) (within 
       ∙ ap (λ (i : ℕ). getD b i 0) (omega arith))
 
   -- what an accepted `read_samples` leaves at place k of the buffer of channel c
-  pub sample-read : (buffer : List ℤ) → getD (bufferAfter 0 b c buffer) k (pos 0) ≡ signedOf (getD b (80 + 4 * k + (c - 1)) 0)
-  unfolding bufferAfter
+  pub sample-read : (buffer : List ℤ) → getD (channelAfter 0 b c buffer) k (pos 0) ≡ signedOf (getD b (80 + 4 * k + (c - 1)) 0)
+  unfolding channelAfter
   sample-read buffer = over-low buffer (sampleOf (stretchOf b) c) (pos 0) (sampleCount b) k within ∙ sample-byte

@@ -17,7 +17,7 @@ use Rattle.fields.proofs.Tables.{sound-inside, sound-rest}
 use Rattle.header.specs.Format.{fields}
 use Rattle.header.specs.Header.{named, headerOf}
 use Rattle.header.proofs.Sound.{fields-sound}
-use Rattle.record.specs.Refusal.{first}
+use Rattle.answers.specs.Refusal.{first}
 use Rattle.record.specs.Record.{checks, recordRefusal}
 
 -- the first n bytes are the same

@@ -9,19 +9,19 @@ use native.Mathlib.Omega.{arith}
 use lib.ListN.{length}
 use borrow.Author.Tests.{ltb-false}
 use Rattle.lists.proofs.Truth.{or-false}
-use Rattle.rates.specs.Rates.{samplesPerRecord}
-use Rattle.rates.proofs.Lines.{rate-line}
+use Rattle.sample_rates.specs.Rates.{samplesPerRecord}
+use Rattle.sample_rates.proofs.Lines.{rate-line}
 use Rattle.header.specs.Header.{headerOf}
-use Rattle.record.specs.Refusal.{_when_, first}
+use Rattle.answers.specs.Refusal.{_when_, first}
 use Rattle.record.specs.Record.{recordRefusal}
-use Rattle.record.proofs.Refusals.{then-zero}
+use Rattle.answers.proofs.Refusals.{then-zero}
 use Rattle.record.proofs.Accepted.{stretch-inside}
-use Rattle.record.specs.Stretch.{lineOf, sampleCount}
+use Rattle.record.specs.Stretch.{recordRate, sampleCount}
 use Rattle.samples.specs.InOut.{fewer, samplesRefusal}
 
 -- any bytes: at most 1,000 samples a channel
 pub count-small : (b : List ℕ) → sampleCount b ≤ 1000
-unfolding lineOf
+unfolding recordRate
 count-small b = ⊎-elim (λ z. omega (arith, ap samplesPerRecord z)) (λ l. l .most) (rate-line (headerOf b .«sample_rate_hz»))
 
 pub record Room (b : List ℕ) (one two three four : ℕ) : Type 0 where
@@ -34,7 +34,7 @@ pub record Room (b : List ℕ) (one two three four : ℕ) : Type 0 where
 
 module _ (b : List ℕ) (one two three four : ℕ) where
   inside-of : recordRefusal b ≡ 0 → 80 + 4 * sampleCount b + 300 ≤ length b
-  unfolding lineOf
+  unfolding recordRate
   inside-of e = stretch-inside b e
 
   enough : (t : Bool) → first (12 when t ∷ []) ≡ 0 → t ≡ false

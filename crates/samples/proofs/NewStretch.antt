@@ -11,9 +11,9 @@ use lib.Seq.{length-take-le, take-at, drop-at, drop-drop, getD-take, getD-drop}
 use Rattle.lists.proofs.Order.{le-or-lt}
 use Rattle.header.specs.declared.Header.{Header}
 use Rattle.header.specs.Header.{headerOf}
-use Rattle.rates.specs.Rates.{rateOf}
+use Rattle.sample_rates.specs.Rates.{sampleRateOf}
 use Rattle.record.specs.Record.{recordRefusal}
-use Rattle.record.specs.Stretch.{lineOf, sampleCount, stretchOf, withStretch}
+use Rattle.record.specs.Stretch.{recordRate, sampleCount, stretchOf, withStretch}
 use Rattle.samples.proofs.FirstBytes.{same-header, same-refusal}
 
 module _ (b : List ℕ) (inside : 80 + 4 * sampleCount b ≤ length b) where
@@ -62,8 +62,8 @@ module _ (b : List ℕ) (inside : 80 + 4 * sampleCount b ≤ length b) where
     new-refusal = same-refusal (withStretch b stretch) b new-first new-length
 
     pub new-count : sampleCount (withStretch b stretch) ≡ sampleCount b
-    unfolding lineOf
-    new-count = ap (λ (h : Header). rateOf (h .«sample_rate_hz») .2) new-header
+    unfolding recordRate
+    new-count = ap (λ (h : Header). sampleRateOf (h .«sample_rate_hz») .2) new-header
 
     new-rest : drop 80 (withStretch b stretch) ≡ stretch ++ rest
     unfolding withStretch

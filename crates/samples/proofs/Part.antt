@@ -14,10 +14,10 @@ use borrow.Rule.Slice.PartMut.{putMid, post-is}
 use Rattle.lists.specs.Fill.{over}
 use Rattle.lists.proofs.Fill.{length-over}
 use Rattle.channels.specs.Sample.{sampleOf, channelRoom, interleaved, setRoom, multiplexed}
-use Rattle.record.proofs.Refusals.{cond-none, cond-some}
-use Rattle.totals.specs.Total.{totalsOf, countOf}
+use Rattle.answers.proofs.Refusals.{cond-none, cond-some}
+use Rattle.totals.specs.Total.{totalsOf, setCount}
 use Rattle.record.specs.Stretch.{sampleCount, stretchOf, withStretch}
-use Rattle.samples.specs.InOut.{bufferAfter, recordAfter}
+use Rattle.samples.specs.InOut.{channelAfter, recordAfter}
 
 -- there is no refusal, or there is one
 pub none-or-some : (n : ℕ) → (n ≡ 0) ⊎ (n ≡ 0 → ⊥)
@@ -26,8 +26,8 @@ none-or-some (suc n) = inr (λ z. omega (arith, z))
 
 -- what a refusal leaves
 module _ (refusal : ℕ) (b : List ℕ) (some : refusal ≡ 0 → ⊥) where
-  pub buffer-kept : (channel : ℕ) (buffer : List ℤ) → buffer ≡ bufferAfter refusal b channel buffer
-  unfolding bufferAfter
+  pub buffer-kept : (channel : ℕ) (buffer : List ℤ) → buffer ≡ channelAfter refusal b channel buffer
+  unfolding channelAfter
   buffer-kept channel buffer = sym (cond-some refusal buffer _ some)
 
   pub record-kept : (one two three four : List ℤ) → b ≡ recordAfter refusal b one two three four
@@ -36,8 +36,8 @@ module _ (refusal : ℕ) (b : List ℕ) (some : refusal ≡ 0 → ⊥) where
 
 -- what no refusal leaves
 module _ (refusal : ℕ) (b : List ℕ) (none : refusal ≡ 0) where
-  pub buffer-by : (channel : ℕ) (buffer : List ℤ) → bufferAfter refusal b channel buffer ≡ over buffer (sampleOf (stretchOf b) channel) (sampleCount b)
-  unfolding bufferAfter
+  pub buffer-by : (channel : ℕ) (buffer : List ℤ) → channelAfter refusal b channel buffer ≡ over buffer (sampleOf (stretchOf b) channel) (sampleCount b)
+  unfolding channelAfter
   buffer-by channel buffer = cond-none refusal buffer _ none
 
   pub record-by : (one two three four : List ℤ) → recordAfter refusal b one two three four ≡ withStretch b (interleaved (sampleCount b) one two three four)
@@ -46,7 +46,7 @@ module _ (refusal : ℕ) (b : List ℕ) (none : refusal ≡ 0) where
 
 -- a buffer that holds the samples keeps its length
 pub buffer-length : (refusal : ℕ) (b : List ℕ) (channel : ℕ) (buffer : List ℤ) → (refusal ≡ 0 → sampleCount b ≤ length buffer)
-    → length (bufferAfter refusal b channel buffer) ≡ length buffer
+    → length (channelAfter refusal b channel buffer) ≡ length buffer
 buffer-length refusal b channel buffer h =
     ⊎-elim (λ z. ap length (buffer-by refusal b z channel buffer) ∙ length-over buffer _ (sampleCount b) (h z))
     (λ s. ap length (sym (buffer-kept refusal b s channel buffer)))
@@ -71,9 +71,9 @@ module _ (b : List ℕ) (n : ℕ) (inside : 80 + 4 * n ≤ length b) where
   sets = omega (arith, part-length)
 
   -- the totals of the part, over as many samples as it has
-  pub part-totals : n ≤ 1000 → totalsOf (part b n) (countOf (part b n)) ≡ totalsOf (take (4 * n) (drop 80 b)) n
+  pub part-totals : n ≤ 1000 → totalsOf (part b n) (setCount (part b n)) ≡ totalsOf (take (4 * n) (drop 80 b)) n
   part-totals few =
-      let count : countOf (part b n) ≡ n = omega (arith, part-length) in
+      let count : setCount (part b n) ≡ n = omega (arith, part-length) in
       let e : 80 + 4 * n - 80 ≡ 4 * n = omega arith in
       (λ i. totalsOf (part b n) (count i)) ∙ (λ i. totalsOf (take (e i) (drop 80 b)) n)
 
@@ -101,8 +101,8 @@ module _ (b : List ℕ) (n : ℕ) (inside : 80 + 4 * n ≤ length b) where
 module _ (b : List ℕ) (n : ℕ) (e : n ≡ sampleCount b) (inside : 80 + 4 * n ≤ length b) where
   -- a channel's samples, out of the part
   pub buffer-filled : (channel : ℕ) (buffer out : List ℤ) → (ltb channel 1 || ltb 4 channel) ≡ false → n ≤ length buffer
-      → out ≡ over buffer (sampleOf (part b n) channel) (channelRoom channel (length (part b n)) (length buffer)) → out ≡ bufferAfter 0 b channel buffer
-  unfolding bufferAfter
+      → out ≡ over buffer (sampleOf (part b n) channel) (channelRoom channel (length (part b n)) (length buffer)) → out ≡ channelAfter 0 b channel buffer
+  unfolding channelAfter
   buffer-filled channel buffer out c h o =
       o ∙ (λ i. over buffer (sampleOf (part-is b n e i) channel) ((count-out b n inside channel buffer c h ∙ e) i))
 

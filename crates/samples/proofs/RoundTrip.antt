@@ -9,7 +9,7 @@ use lib.Signed.{mag}
 use Rattle.header.specs.Header.{headerOf}
 use Rattle.channels.specs.Sample.{channelOf}
 use Rattle.record.specs.Stretch.{sampleCount}
-use Rattle.samples.specs.InOut.{samplesRefusal, bufferAfter, recordAfter}
+use Rattle.samples.specs.InOut.{samplesRefusal, channelAfter, recordAfter}
 use Rattle.samples.proofs.Trips.{back, written-header, written-refusal, written-samples}
 
 -- what both functions answer for the record b and four buffers
@@ -18,7 +18,7 @@ refusalFor b one two three four = samplesRefusal b (length one) (length two) (le
 
 -- what `read_samples` of b leaves in the buffer of channel c
 abbrev pub samplesOut : List ℕ → List ℤ → List ℤ → List ℤ → List ℤ → ℕ → List ℤ
-samplesOut b one two three four c = bufferAfter (refusalFor b one two three four) b c (channelOf one two three four c)
+samplesOut b one two three four c = channelAfter (refusalFor b one two three four) b c (channelOf one two three four c)
 
 -- what `write_samples` leaves in the record b
 abbrev pub samplesIn : List ℕ → List ℤ → List ℤ → List ℤ → List ℤ → List ℕ

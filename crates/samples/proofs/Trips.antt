@@ -13,10 +13,10 @@ use Rattle.header.specs.Header.{headerOf}
 use Rattle.channels.specs.Sample.{sampleOf, channelOf, interleavedByte, interleaved}
 use Rattle.channels.proofs.OutThenIn.{buffers-in}
 use Rattle.channels.proofs.InThenOut.{buffer-out}
-use Rattle.record.specs.Refusal.{_when_, first, _then_}
+use Rattle.answers.specs.Refusal.{_when_, first, _then_}
 use Rattle.record.specs.Record.{recordRefusal}
 use Rattle.record.specs.Stretch.{sampleCount, stretchOf, withStretch}
-use Rattle.samples.specs.InOut.{fewer, samplesRefusal, bufferAfter, recordAfter}
+use Rattle.samples.specs.InOut.{fewer, samplesRefusal, channelAfter, recordAfter}
 use Rattle.samples.proofs.Judged.{Room, room}
 use Rattle.samples.proofs.Part.{none-or-some, record-kept, buffer-by, record-by, buffer-length}
 use Rattle.samples.proofs.NewStretch.{length-stretch, stretch-bytes, same-stretch, new-header, new-refusal, new-count, new-stretch}
@@ -38,7 +38,7 @@ module _ (b : List ℕ) (one two three four : List ℤ) where
   -- ## out, then in
 
   abbrev out : ℕ → List ℤ → List ℤ
-  out channel buffer = bufferAfter refusal b channel buffer
+  out channel buffer = channelAfter refusal b channel buffer
 
   enough : refusal ≡ 0 → Room b (length one) (length two) (length three) (length four)
   enough z = room b (length one) (length two) (length three) (length four) refl z
@@ -105,7 +105,7 @@ module _ (b : List ℕ) (one two three four : List ℤ) where
         each-channel (λ (x : List ℤ). sampleCount b ≤ length x) one two three four (r .first) (r .second) (r .third) (r .fourth) c l h
 
     pub written-samples : (c : ℕ) → 1 ≤ c → c ≤ 4 → ((k : ℕ) → mag (getD (channelOf one two three four c) k (pos 0)) < 128)
-        → (r : ℕ) (buffer : List ℤ) → r ≡ 0 → bufferAfter r written c buffer ≡ take (sampleCount b) (channelOf one two three four c) ++ drop (sampleCount b) buffer
+        → (r : ℕ) (buffer : List ℤ) → r ≡ 0 → channelAfter r written c buffer ≡ take (sampleCount b) (channelOf one two three four c) ++ drop (sampleCount b) buffer
     written-samples c l h f r buffer z =
         let n = ap sampleCount is-written ∙ new-count b inside stretch stretch-length in
         let s = ap stretchOf is-written ∙ new-stretch b inside stretch stretch-length in

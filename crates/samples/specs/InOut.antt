@@ -8,7 +8,7 @@ use lib.IntN.{ℤ}
 use Rattle.lists.specs.Fill.{over}
 use Rattle.channels.specs.Sample.{sampleOf, interleaved}
 use Rattle.record.specs.Record.{recordRefusal}
-use Rattle.record.specs.Refusal.{_when_, first, _then_}
+use Rattle.answers.specs.Refusal.{_when_, first, _then_}
 use Rattle.record.specs.Stretch.{sampleCount, stretchOf, withStretch}
 
 -- one of four buffers of these lengths holds fewer than n samples
@@ -20,8 +20,8 @@ unfoldable pub samplesRefusal : List ℕ → ℕ → ℕ → ℕ → ℕ → ℕ
 samplesRefusal b one two three four = recordRefusal b then first (12 when fewer (sampleCount b) one two three four ∷ [])
 
 -- a channel's buffer after samples went out: its first places are the channel's samples; after a refusal it is as it was
-unfoldable pub bufferAfter : ℕ → List ℕ → ℕ → List ℤ → List ℤ
-bufferAfter refusal b channel buffer = cond (eqb refusal 0) (over buffer (sampleOf (stretchOf b) channel) (sampleCount b)) buffer
+unfoldable pub channelAfter : ℕ → List ℕ → ℕ → List ℤ → List ℤ
+channelAfter refusal b channel buffer = cond (eqb refusal 0) (over buffer (sampleOf (stretchOf b) channel) (sampleCount b)) buffer
 
 -- the record after samples came in: its stretch is the bytes of the four channels' samples; after a refusal it is as it was
 unfoldable pub recordAfter : ℕ → List ℕ → List ℤ → List ℤ → List ℤ → List ℤ → List ℕ

@@ -1,7 +1,7 @@
 -- The totals of a record's samples, for each channel. 01: "for each channel sum, sum of squares, least and greatest over all samples".
 use mathlib.Core.List.{List, [], _∷_}
 use Prim.Native.Nat.{ℕ}
-use Rattle.record.specs.Answer.{Answer, told, unless}
+use Rattle.answers.specs.Answer.{Answer, told, unless}
 use Rattle.record.specs.Record.{recordRefusal}
 use Rattle.record.specs.Stretch.{sampleCount, stretchOf}
 use Rattle.totals.specs.declared.Total.{Total}

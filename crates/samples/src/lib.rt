@@ -4,12 +4,12 @@ ghost use mathlib.Core.Path.{_≡_};
 ghost use mathlib.Core.List.{[], _∷_};
 ghost use Prim.Native.Nat.{_≤_};
 ghost use lib.ListN.{length};
-ghost use Rattle.record.specs.Answer.{refused};
-ghost use Rattle.record.specs.Refusal.{_when_, first};
-ghost use Rattle.record.specs.Stretch.{lineOf, sampleCount};
-ghost use Rattle.samples.specs.InOut.{fewer, samplesRefusal, bufferAfter, recordAfter};
+ghost use Rattle.answers.specs.Answer.{refused};
+ghost use Rattle.answers.specs.Refusal.{_when_, first};
+ghost use Rattle.record.specs.Stretch.{recordRate, sampleCount};
+ghost use Rattle.samples.specs.InOut.{fewer, samplesRefusal, channelAfter, recordAfter};
 ghost use Rattle.samples.specs.Totals.{noTotals, totalsAnswer, shownTotals};
-use rates::Rate;
+use sample_rates::SampleRate;
 use totals::Total;
 
 // The totals of channels 1 to 4 over all samples of a record, beside the refusal; with one, they are 0.
@@ -20,11 +20,11 @@ pub struct TotalsAnswer {
 }
 
 // The line of the table of rates that a record's header names; a line of zeros where it is no rate.
-pub fn line_of(bytes: &[u8]) -> Rate
-    ensures { λ r. ⌜ r ≡ lineOf (now (bytes .entry)) ⌝ }
+pub fn line_of(bytes: &[u8]) -> SampleRate
+    ensures { λ r. ⌜ r ≡ recordRate (now (bytes .entry)) ⌝ }
 {
     let h = header::read_fields(bytes);
-    rates::rate_of(h.sample_rate_hz)
+    sample_rates::sample_rate_of(h.sample_rate_hz)
 }
 
 // The samples that each channel has in a record.
@@ -51,7 +51,7 @@ fn judge(bytes: &[u8], one: usize, two: usize, three: usize, four: usize) -> u8
     ensures { λ r. ⌜ r ≡ samplesRefusal (now (bytes .entry)) one two three four ⌝ }
 {
     let short = too_short(sample_count(bytes), one, two, three, four);
-    record::first_refusal(record::accept(bytes), short)
+    answers::first_refusal(record::refusal_of(bytes), short)
 }
 
 // The samples of a record, out to the buffers of the four channels; places past them keep their contents.
@@ -63,10 +63,10 @@ pub fn read_samples(
     four: &mut [i8],
 ) -> u8
     ensures { λ r. ⌜ r ≡ samplesRefusal (now (bytes .entry)) (length (now (one .entry))) (length (now (two .entry))) (length (now (three .entry))) (length (now (four .entry))) ⌝ }
-    ensures { λ r. ⌜ now (one .exit) ≡ bufferAfter r (now (bytes .entry)) 1 (now (one .entry)) ⌝ }
-    ensures { λ r. ⌜ now (two .exit) ≡ bufferAfter r (now (bytes .entry)) 2 (now (two .entry)) ⌝ }
-    ensures { λ r. ⌜ now (three .exit) ≡ bufferAfter r (now (bytes .entry)) 3 (now (three .entry)) ⌝ }
-    ensures { λ r. ⌜ now (four .exit) ≡ bufferAfter r (now (bytes .entry)) 4 (now (four .entry)) ⌝ }
+    ensures { λ r. ⌜ now (one .exit) ≡ channelAfter r (now (bytes .entry)) 1 (now (one .entry)) ⌝ }
+    ensures { λ r. ⌜ now (two .exit) ≡ channelAfter r (now (bytes .entry)) 2 (now (two .entry)) ⌝ }
+    ensures { λ r. ⌜ now (three .exit) ≡ channelAfter r (now (bytes .entry)) 3 (now (three .entry)) ⌝ }
+    ensures { λ r. ⌜ now (four .exit) ≡ channelAfter r (now (bytes .entry)) 4 (now (four .entry)) ⌝ }
 {
     let n = judge(bytes, one.len(), two.len(), three.len(), four.len());
     if n != 0 {
@@ -117,7 +117,7 @@ fn no_totals(refusal: u8) -> TotalsAnswer
 pub fn record_totals(bytes: &[u8]) -> TotalsAnswer
     ensures { λ r. ⌜ shownTotals r ≡ totalsAnswer (now (bytes .entry)) ⌝ }
 {
-    let n = record::accept(bytes);
+    let n = record::refusal_of(bytes);
     if n != 0 {
         return no_totals(n);
     }

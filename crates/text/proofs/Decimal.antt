@@ -11,7 +11,7 @@ use lib.Dec.{ltb, lit<, lit≤}
 use lib.ListN.{length, getD, length-append, List·getD-append}
 use borrow.Author.Tests.{lt-ltb, le-ltb}
 use Rattle.lists.proofs.Order.{le-or-lt}
-use Rattle.text.specs.Number.{digit, decimal, digitsIn, valueAfter, valueOf}
+use Rattle.text.specs.Number.{digit, decimalText, digitsIn, valueAfter, numeralValue}
 
 small : (f n : ℕ) → n < 10 → digitsIn f (ltb n 10) n ≡ digit n ∷ []
 unfolding digitsIn
@@ -32,12 +32,12 @@ enough (suc f) (suc g) n hf hg =
     (λ h. small (suc f) n h ∙ sym (small (suc g) n h))
     (le-or-lt 10 n)
 
-pub one-digit : (n : ℕ) → n < 10 → digit n ∷ [] ≡ decimal n
-unfolding decimal
+pub one-digit : (n : ℕ) → n < 10 → digit n ∷ [] ≡ decimalText n
+unfolding decimalText
 one-digit n h = sym (small n n h)
 
-pub more-digits : (n : ℕ) → 10 ≤ n → decimal (n / 10) ++ digit n ∷ [] ≡ decimal n
-unfolding decimal
+pub more-digits : (n : ℕ) → 10 ≤ n → decimalText (n / 10) ++ digit n ∷ [] ≡ decimalText n
+unfolding decimalText
 more-digits zero h = absurd (omega arith)
 more-digits (suc m) h =
     ap (λ (l : List ℕ). l ++ digit (suc m) ∷ []) (enough (suc m / 10) m (suc m / 10) (omega arith) (omega arith))
@@ -51,16 +51,16 @@ by-digits P one more n = within n n (omega arith)
     within zero m h = one m (omega arith)
     within (suc k) m h = ⊎-elim (λ p. more m p (within k (m / 10) (omega arith))) (λ p. one m p) (le-or-lt 10 m)
 
-pub one-length : (n : ℕ) → n < 10 → length (decimal n) ≡ 1
+pub one-length : (n : ℕ) → n < 10 → length (decimalText n) ≡ 1
 one-length n h = sym (ap length (one-digit n h))
 
-pub more-length : (n : ℕ) → 10 ≤ n → length (decimal n) ≡ length (decimal (n / 10)) + 1
-more-length n h = sym (ap length (more-digits n h)) ∙ length-append (decimal (n / 10)) (digit n ∷ [])
+pub more-length : (n : ℕ) → 10 ≤ n → length (decimalText n) ≡ length (decimalText (n / 10)) + 1
+more-length n h = sym (ap length (more-digits n h)) ∙ length-append (decimalText (n / 10)) (digit n ∷ [])
 
-pub some-digit : (n : ℕ) → 1 ≤ length (decimal n)
+pub some-digit : (n : ℕ) → 1 ≤ length (decimalText n)
 some-digit n = ⊎-elim (λ h. omega (arith, more-length n h)) (λ h. omega (arith, one-length n h)) (le-or-lt 10 n)
 
-length-suc : (k n : ℕ) → n < 10 ^ suc k → length (decimal n) ≤ suc k
+length-suc : (k n : ℕ) → n < 10 ^ suc k → length (decimalText n) ≤ suc k
 length-suc zero n h = omega (arith, one-length n h)
 length-suc (suc k) n h =
     ⊎-elim
@@ -69,23 +69,23 @@ length-suc (suc k) n h =
     (le-or-lt 10 n)
 
 -- a number below 10 ^ k has at most k digits
-pub decimal-length : (k n : ℕ) → 0 < k → n < 10 ^ k → length (decimal n) ≤ k
+pub decimal-length : (k n : ℕ) → 0 < k → n < 10 ^ k → length (decimalText n) ≤ k
 decimal-length zero n p h = absurd (omega arith)
 decimal-length (suc k) n p h = length-suc k n h
 
 -- a number of 64 bits has at most 20 digits
-pub word-digits : (n : ℕ) → n < 2 ^ 64 → length (decimal n) ≤ 20
+pub word-digits : (n : ℕ) → n < 2 ^ 64 → length (decimalText n) ≤ 20
 word-digits n h = decimal-length 20 n (lit< tt) (lt-of-lt-of-le h (lit≤ tt))
 
 -- the first of two or more digits is no zero
-pub no-leading-zero : (n : ℕ) → 10 ≤ n → 48 < getD (decimal n) 0 0
+pub no-leading-zero : (n : ℕ) → 10 ≤ n → 48 < getD (decimalText n) 0 0
 no-leading-zero n h = first (omega arith)
   where
-    first : 0 < n → 48 < getD (decimal n) 0 0
+    first : 0 < n → 48 < getD (decimalText n) 0 0
     first =
-        by-digits (λ (m : ℕ). 0 < m → 48 < getD (decimal m) 0 0)
+        by-digits (λ (m : ℕ). 0 < m → 48 < getD (decimalText m) 0 0)
         (λ m g p. omega (arith, ap (λ (l : List ℕ). getD l 0 0) (one-digit m g)))
-        (λ m g f p. omega (arith, f (omega arith), ap (λ (l : List ℕ). getD l 0 0) (more-digits m g), List·getD-append (decimal (m / 10)) (digit m ∷ []) 0 0 (omega (arith, some-digit (m / 10)))))
+        (λ m g f p. omega (arith, f (omega arith), ap (λ (l : List ℕ). getD l 0 0) (more-digits m g), List·getD-append (decimalText (m / 10)) (digit m ∷ []) 0 0 (omega (arith, some-digit (m / 10)))))
         n
 
 after-last : (before : ℕ) (ds : List ℕ) (d : ℕ) → valueAfter before (ds ++ d ∷ []) ≡ valueAfter before ds * 10 + (d - 48)
@@ -93,14 +93,14 @@ unfolding valueAfter
 after-last before [] d = refl
 after-last before (x ∷ ds) d = after-last (before * 10 + (x - 48)) ds d
 
-pub value-last : (ds : List ℕ) (n : ℕ) → valueOf (ds ++ digit n ∷ []) ≡ valueOf ds * 10 + n % 10
-unfolding valueOf
+pub value-last : (ds : List ℕ) (n : ℕ) → numeralValue (ds ++ digit n ∷ []) ≡ numeralValue ds * 10 + n % 10
+unfolding numeralValue
 value-last ds n = omega (arith, after-last 0 ds (digit n))
 
 -- the digits of a number stand for it
-pub value-decimal : (n : ℕ) → valueOf (decimal n) ≡ n
-unfolding valueOf valueAfter
+pub value-decimal : (n : ℕ) → numeralValue (decimalText n) ≡ n
+unfolding numeralValue valueAfter
 value-decimal =
-    by-digits (λ (n : ℕ). valueOf (decimal n) ≡ n)
-    (λ n h. omega (arith, ap valueOf (one-digit n h), value-last [] n))
-    (λ n h e. omega (arith, e, ap valueOf (more-digits n h), value-last (decimal (n / 10)) n))
+    by-digits (λ (n : ℕ). numeralValue (decimalText n) ≡ n)
+    (λ n h. omega (arith, ap numeralValue (one-digit n h), value-last [] n))
+    (λ n h e. omega (arith, e, ap numeralValue (more-digits n h), value-last (decimalText (n / 10)) n))

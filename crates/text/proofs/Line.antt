@@ -7,7 +7,7 @@ use native.Mathlib.Omega.{arith}
 use lib.Dec.{lit<}
 use lib.IntN.{ℤ, pos, negsuc, natAbs}
 use lib.ListN.{length, length-append}
-use Rattle.text.specs.Number.{ascii, digitsIn, decimal, places, fixed, signedFixed}
+use Rattle.text.specs.Number.{ascii, digitsIn, decimalText, places, fixed, signedFixed}
 use Rattle.text.specs.Text.{headerLine, recordLine, recordLength, refusedLine, refusedLength}
 use Rattle.text.proofs.Decimal.{decimal-length}
 use Rattle.text.proofs.Places.{fixed-parts}
@@ -47,18 +47,18 @@ refusedLine-length number h = omega (arith, refused-parts number, decimal-length
 
 -- the 51 bytes are reached, by the last time of a day that a tag can give
 longest : length (recordLine 65535 86399999000 1 99999999999999 (negsuc 999989999999)) ≡ 51
-unfolding recordLine signedFixed fixed places decimal digitsIn
+unfolding recordLine signedFixed fixed places decimalText digitsIn
 longest = refl
 
 -- what the lister prints of the case of 01: -1.23450 is `negsuc 123449`
 the-case : headerLine ++ recordLine 1 43200000000 1 42000000 (negsuc 123449) ≡ ascii "record,first_us,origin,poca_hz,rate_hz_s\n1,43200000000,1,42.000000,-1.23450\n"
-unfolding headerLine recordLine signedFixed fixed places decimal digitsIn
+unfolding headerLine recordLine signedFixed fixed places decimalText digitsIn
 the-case = refl
 
 zero-rate : signedFixed 5 (pos 0) ≡ ascii "0.00000"
-unfolding signedFixed fixed places decimal digitsIn
+unfolding signedFixed fixed places decimalText digitsIn
 zero-rate = refl
 
 refused-rate : refusedLine 5 ≡ ascii "refused,5\n"
-unfolding refusedLine decimal digitsIn
+unfolding refusedLine decimalText digitsIn
 refused-rate = refl

@@ -9,7 +9,7 @@ use native.Mathlib.Numerals.{add-one}
 use native.Mathlib.Omega.{arith}
 use lib.ListN.{length, length-append}
 use Rattle.lists.proofs.Order.{le-or-lt}
-use Rattle.text.specs.Number.{ascii, digit, decimal, places, fixed, valueOf}
+use Rattle.text.specs.Number.{ascii, digit, decimalText, places, fixed, numeralValue}
 use Rattle.text.proofs.Decimal.{one-length, more-length, some-digit, value-last, value-decimal}
 
 pub places-length : (k n : ℕ) → length (places k n) ≡ k
@@ -21,10 +21,10 @@ places-length (suc k) n = length-append (places k (n / 10)) (digit n ∷ []) ∙
 tenth : (k n : ℕ) → n / 10 / 10 ^ k ≡ n / 10 ^ suc k
 tenth k n = div-div-eq-div-mul n 10 (10 ^ k) ∙ ap (λ (d : ℕ). n / d) (sym (pow-succ' 10 k))
 
-pub fixed-none : (k n : ℕ) → k ≡ 0 → decimal n ++ ascii "." ≡ fixed k n
+pub fixed-none : (k n : ℕ) → k ≡ 0 → decimalText n ++ ascii "." ≡ fixed k n
 unfolding fixed places
 fixed-none k n e =
-    sym (append-nil (decimal (n / 1) ++ ascii ".") ∙ ap (λ (m : ℕ). decimal m ++ ascii ".") (div-one n))
+    sym (append-nil (decimalText (n / 1) ++ ascii ".") ∙ ap (λ (m : ℕ). decimalText m ++ ascii ".") (div-one n))
     ∙ ap (λ (j : ℕ). fixed j n) (sym e)
 
 pub fixed-more : (k n : ℕ) → 0 < k → fixed (k - 1) (n / 10) ++ digit n ∷ [] ≡ fixed k n
@@ -32,20 +32,20 @@ unfolding fixed places
 fixed-more zero n h = absurd (omega arith)
 fixed-more (suc k) n h =
     ap (λ (j : ℕ). fixed j (n / 10) ++ digit n ∷ []) (omega arith)
-    ∙ append-assoc (decimal (n / 10 / 10 ^ k) ++ ascii ".") (places k (n / 10)) (digit n ∷ [])
-    ∙ ap (λ (m : ℕ). decimal m ++ ascii "." ++ places (suc k) n) (tenth k n)
+    ∙ append-assoc (decimalText (n / 10 / 10 ^ k) ++ ascii ".") (places k (n / 10)) (digit n ∷ [])
+    ∙ ap (λ (m : ℕ). decimalText m ++ ascii "." ++ places (suc k) n) (tenth k n)
 
 -- the digits before the point, the point and the places
-pub fixed-parts : (k n : ℕ) → length (fixed k n) ≡ length (decimal (n / 10 ^ k)) + 1 + k
+pub fixed-parts : (k n : ℕ) → length (fixed k n) ≡ length (decimalText (n / 10 ^ k)) + 1 + k
 unfolding fixed
 fixed-parts k n =
-    let whole = decimal (n / 10 ^ k) in
+    let whole = decimalText (n / 10 ^ k) in
     omega (arith, length-append whole (ascii "."), length-append (whole ++ ascii ".") (places k n), places-length k n)
 
-whole-length : (k n : ℕ) → (k < length (decimal n) → length (decimal (n / 10 ^ k)) + k ≡ length (decimal n)) × (length (decimal n) ≤ k → length (decimal (n / 10 ^ k)) ≡ 1)
-whole-length zero n = ((λ h. omega (arith, ap (λ (m : ℕ). length (decimal m)) (div-one n))), (λ h. absurd (omega (arith, some-digit n))))
+whole-length : (k n : ℕ) → (k < length (decimalText n) → length (decimalText (n / 10 ^ k)) + k ≡ length (decimalText n)) × (length (decimalText n) ≤ k → length (decimalText (n / 10 ^ k)) ≡ 1)
+whole-length zero n = ((λ h. omega (arith, ap (λ (m : ℕ). length (decimalText m)) (div-one n))), (λ h. absurd (omega (arith, some-digit n))))
 whole-length (suc k) n =
-    let e = ap (λ (m : ℕ). length (decimal m)) (tenth k n) in
+    let e = ap (λ (m : ℕ). length (decimalText m)) (tenth k n) in
     let below = whole-length k (n / 10) in
     ⊎-elim
     (λ g. let m = more-length n g in ((λ h. omega (arith, e, m, (below .0) (omega (arith, m)))), (λ h. omega (arith, e, (below .1) (omega (arith, m))))))
@@ -53,19 +53,19 @@ whole-length (suc k) n =
     (le-or-lt 10 n)
 
 -- all digits and the point, where there are more digits than places
-pub fixed-long : (k n : ℕ) → k < length (decimal n) → length (fixed k n) ≡ length (decimal n) + 1
+pub fixed-long : (k n : ℕ) → k < length (decimalText n) → length (fixed k n) ≡ length (decimalText n) + 1
 fixed-long k n h = omega (arith, fixed-parts k n, (whole-length k n .0) h)
 
 -- else one digit, the point and the places
-pub fixed-short : (k n : ℕ) → length (decimal n) ≤ k → length (fixed k n) ≡ k + 2
+pub fixed-short : (k n : ℕ) → length (decimalText n) ≤ k → length (fixed k n) ≡ k + 2
 fixed-short k n h = omega (arith, fixed-parts k n, (whole-length k n .1) h)
 
 -- the digits before the point with those behind it stand for the number of units
-pub value-fixed : (k n : ℕ) → valueOf (decimal (n / 10 ^ k) ++ places k n) ≡ n
+pub value-fixed : (k n : ℕ) → numeralValue (decimalText (n / 10 ^ k) ++ places k n) ≡ n
 unfolding places
-value-fixed zero n = ap valueOf (append-nil (decimal (n / 1)) ∙ ap decimal (div-one n)) ∙ value-decimal n
+value-fixed zero n = ap numeralValue (append-nil (decimalText (n / 1)) ∙ ap decimalText (div-one n)) ∙ value-decimal n
 value-fixed (suc k) n =
-    let last = value-last (decimal (n / 10 / 10 ^ k) ++ places k (n / 10)) n in
-    let join = ap valueOf (append-assoc (decimal (n / 10 / 10 ^ k)) (places k (n / 10)) (digit n ∷ [])) in
-    let whole = ap (λ (m : ℕ). valueOf (decimal m ++ places (suc k) n)) (tenth k n) in
+    let last = value-last (decimalText (n / 10 / 10 ^ k) ++ places k (n / 10)) n in
+    let join = ap numeralValue (append-assoc (decimalText (n / 10 / 10 ^ k)) (places k (n / 10)) (digit n ∷ [])) in
+    let whole = ap (λ (m : ℕ). numeralValue (decimalText m ++ places (suc k) n)) (tenth k n) in
     omega (arith, last, join, whole, value-fixed k (n / 10))

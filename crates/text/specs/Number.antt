@@ -1,4 +1,4 @@
--- Numbers as text (01, "The lister"): decimal digits, decimal places, a minus below zero. Characters are their ASCII numbers.
+-- Numbers as text (01, "The lister"): decimalText digits, decimalText places, a minus below zero. Characters are their ASCII numbers.
 use mathlib.Core.Bool.{Bool, true, false}
 use mathlib.Core.List.{List, [], _∷_, _++_}
 use Prim.Native.Nat.{ℕ, zero, suc, _+_, _-_, _*_, _/_, _%_, _^_}
@@ -25,17 +25,17 @@ digitsIn (suc k) false n = digitsIn k (ltb (n / 10) 10) (n / 10) ++ digit n ∷ 
 
 -- "most significant first, no leading zeros before the units digit": below ten the one digit, else the digits of n / 10 and then
 -- the units digit; n divisions are always enough
-unfoldable pub decimal : ℕ → List ℕ
-decimal n = digitsIn n (ltb n 10) n
+unfoldable pub decimalText : ℕ → List ℕ
+decimalText n = digitsIn n (ltb n 10) n
 
 -- the last k digits of n, with zeros in front where n has fewer
 unfoldable pub places : ℕ → ℕ → List ℕ
 places zero n = []
 places (suc k) n = places k (n / 10) ++ digit n ∷ []
 
--- n units of the k-th decimal place: "hertz with six places" are made of microhertz
+-- n units of the k-th decimalText place: "hertz with six places" are made of microhertz
 unfoldable pub fixed : ℕ → ℕ → List ℕ
-fixed k n = decimal (n / 10 ^ k) ++ ascii "." ++ places k n
+fixed k n = decimalText (n / 10 ^ k) ++ ascii "." ++ places k n
 
 -- "minus only below zero"; `negsuc n` is -(n + 1)
 unfoldable pub signedFixed : ℕ → ℤ → List ℕ
@@ -47,5 +47,5 @@ unfoldable pub valueAfter : ℕ → List ℕ → ℕ
 valueAfter before [] = before
 valueAfter before (d ∷ ds) = valueAfter (before * 10 + (d - 48)) ds
 
-unfoldable pub valueOf : List ℕ → ℕ
-valueOf ds = valueAfter 0 ds
+unfoldable pub numeralValue : List ℕ → ℕ
+numeralValue ds = valueAfter 0 ds

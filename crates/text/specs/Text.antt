@@ -6,7 +6,7 @@ use lib.Dec.{leb}
 use lib.IntN.{ℤ}
 use lib.ListN.{length}
 use lib.Seq.{sets}
-use Rattle.text.specs.Number.{ascii, decimal, fixed, signedFixed}
+use Rattle.text.specs.Number.{ascii, decimalText, fixed, signedFixed}
 use Rattle.text.specs.declared.Put.{Put}
 use Rattle.text.specs.declared.Put.the-variants.{Next, Full}
 
@@ -16,20 +16,20 @@ headerLine = ascii "record,first_us,origin,poca_hz,rate_hz_s\n"
 -- record number, first sample's time in microseconds, clock origin, readback in microhertz, rate in units of 0.00001 Hz/s
 unfoldable pub recordLine : ℕ → ℕ → ℕ → ℕ → ℤ → List ℕ
 recordLine number first origin frequency rate =
-    decimal number ++ ascii "," ++ decimal first ++ ascii "," ++ decimal origin ++ ascii ","
+    decimalText number ++ ascii "," ++ decimalText first ++ ascii "," ++ decimalText origin ++ ascii ","
     ++ fixed 6 frequency ++ ascii "," ++ signedFixed 5 rate ++ ascii "\n"
 
 unfoldable pub refusedLine : ℕ → List ℕ
-refusedLine number = ascii "refused," ++ decimal number ++ ascii "\n"
+refusedLine number = ascii "refused," ++ decimalText number ++ ascii "\n"
 
 -- the lengths: of a record's line five numbers, each with a comma or the line feed behind it
 abbrev pub recordLength : ℕ → ℕ → ℕ → ℕ → ℤ → ℕ
 recordLength number first origin frequency rate =
-    length (decimal number) + length (decimal first) + length (decimal origin)
+    length (decimalText number) + length (decimalText first) + length (decimalText origin)
     + length (fixed 6 frequency) + length (signedFixed 5 rate) + 5
 
 abbrev pub refusedLength : ℕ → ℕ
-refusedLength number = length (decimal number) + 9
+refusedLength number = length (decimalText number) + 9
 
 -- what 01 says of an answer: the refusal number, 0 for none, and the next place, 0 beside a refusal
 pub record Shown : Type 0 where

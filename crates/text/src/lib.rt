@@ -7,19 +7,19 @@ ghost use lib.Dec.{leb};
 ghost use lib.IntN.{pos, natAbs};
 ghost use lib.ListN.{length};
 ghost use lib.Signed.{ltZ};
-ghost use Rattle.text.specs.Number.{ascii, digit, decimal, fixed, signedFixed};
+ghost use Rattle.text.specs.Number.{ascii, digit, decimalText, fixed, signedFixed};
 ghost use Rattle.text.specs.Writing.{Room, Written};
 ghost use Rattle.text.specs.Text.{headerLine, recordLength, recordLine, refusedLength, refusedLine, shown, putText, textAfter};
 
 // Decimal places: six of hertz, five of a rate.
 const HERTZ_PLACES: usize = 6;
 
-const RATE_PLACES: usize = 5;
+const FREQUENCY_RATE_PLACES: usize = 5;
 
 // ## Numbers, each written at a place of a buffer that has room for it; a writer returns the place behind its text.
 
 fn decimal_length(n: u64) -> usize
-    ensures { λ r. ⌜ (r ≡ length (decimal n)) × (r ≤ 20) ⌝ }
+    ensures { λ r. ⌜ (r ≡ length (decimalText n)) × (r ≤ 20) ⌝ }
 {
     if n < 10 {
         1
@@ -46,8 +46,8 @@ fn write_digit(out: &mut [u8], at: usize, n: u64) -> usize
 
 // Writes the leading digits, then the last.
 fn write_decimal(out: &mut [u8], at: usize, n: u64) -> usize
-    requires { ⌜ Room (now out) at (decimal n) ⌝ }
-    ensures { λ r. ⌜ Written (now (out .entry)) at (decimal n) r (now (out .exit)) ⌝ }
+    requires { ⌜ Room (now out) at (decimalText n) ⌝ }
+    ensures { λ r. ⌜ Written (now (out .entry)) at (decimalText n) r (now (out .exit)) ⌝ }
 {
     if n < 10 {
         write_digit(out, at, n)
@@ -70,7 +70,7 @@ fn fixed_length(places: usize, n: u64) -> usize
     }
 }
 
-// Writes the leading digits with one decimal place less, then the last.
+// Writes the leading digits with one decimalText place less, then the last.
 fn write_fixed(out: &mut [u8], at: usize, places: usize, n: u64) -> usize
     requires { ⌜ Room (now out) at (fixed places n) ⌝ }
     ensures { λ r. ⌜ Written (now (out .entry)) at (fixed places n) r (now (out .exit)) ⌝ }
@@ -151,13 +151,13 @@ pub fn record_line_length(
     first_us: u64,
     origin: u64,
     frequency_uhz: u64,
-    rate_units: i64,
+    frequency_rate_units: i64,
 ) -> usize
-    ensures { λ r. ⌜ r ≡ length (recordLine number «first_us» origin «frequency_uhz» «rate_units») ⌝ }
+    ensures { λ r. ⌜ r ≡ length (recordLine number «first_us» origin «frequency_uhz» «frequency_rate_units») ⌝ }
 {
     let whole = decimal_length(number) + decimal_length(first_us) + decimal_length(origin);
     let frequency = fixed_length(HERTZ_PLACES, frequency_uhz);
-    let rate = signed_fixed_length(RATE_PLACES, rate_units);
+    let rate = signed_fixed_length(FREQUENCY_RATE_PLACES, frequency_rate_units);
     whole + frequency + rate + 5
 }
 
@@ -169,9 +169,9 @@ pub fn refused_line_length(number: u64) -> usize
 
 // A whole number and the comma behind it.
 fn write_column(out: &mut [u8], at: usize, n: u64) -> usize
-    requires { ⌜ at + length (decimal n) + 1 ≤ length (now out) ⌝ }
-    ensures { λ r. ⌜ Written (now (out .entry)) at (decimal n ++ ascii ",") r (now (out .exit)) ⌝ }
-    ensures { λ r. ⌜ r ≡ at + length (decimal n) + 1 ⌝ }
+    requires { ⌜ at + length (decimalText n) + 1 ≤ length (now out) ⌝ }
+    ensures { λ r. ⌜ Written (now (out .entry)) at (decimalText n ++ ascii ",") r (now (out .exit)) ⌝ }
+    ensures { λ r. ⌜ r ≡ at + length (decimalText n) + 1 ⌝ }
 {
     let comma_at = write_decimal(out, at, n);
     write_byte(out, comma_at, b',')
@@ -184,17 +184,17 @@ fn write_record_line(
     first_us: u64,
     origin: u64,
     frequency_uhz: u64,
-    rate_units: i64,
+    frequency_rate_units: i64,
 ) -> usize
-    requires { ⌜ at + recordLength number «first_us» origin «frequency_uhz» «rate_units» ≤ length (now out) ⌝ }
-    ensures { λ r. ⌜ Written (now (out .entry)) at (recordLine number «first_us» origin «frequency_uhz» «rate_units») r (now (out .exit)) ⌝ }
+    requires { ⌜ at + recordLength number «first_us» origin «frequency_uhz» «frequency_rate_units» ≤ length (now out) ⌝ }
+    ensures { λ r. ⌜ Written (now (out .entry)) at (recordLine number «first_us» origin «frequency_uhz» «frequency_rate_units») r (now (out .exit)) ⌝ }
 {
     let first_at = write_column(out, at, number);
     let origin_at = write_column(out, first_at, first_us);
     let frequency_at = write_column(out, origin_at, origin);
     let comma_at = write_fixed(out, frequency_at, HERTZ_PLACES, frequency_uhz);
     let rate_at = write_byte(out, comma_at, b',');
-    let end = write_signed_fixed(out, rate_at, RATE_PLACES, rate_units);
+    let end = write_signed_fixed(out, rate_at, FREQUENCY_RATE_PLACES, frequency_rate_units);
     write_byte(out, end, b'\n')
 }
 
@@ -252,14 +252,14 @@ pub fn put_record_line(
     first_us: u64,
     origin: u64,
     frequency_uhz: u64,
-    rate_units: i64,
+    frequency_rate_units: i64,
 ) -> Put
-    ensures { λ r. ⌜ shown r ≡ putText (now (out .entry)) at (recordLine number «first_us» origin «frequency_uhz» «rate_units») ⌝ }
-    ensures { λ _. ⌜ now (out .exit) ≡ textAfter (now (out .entry)) at (recordLine number «first_us» origin «frequency_uhz» «rate_units») ⌝ }
+    ensures { λ r. ⌜ shown r ≡ putText (now (out .entry)) at (recordLine number «first_us» origin «frequency_uhz» «frequency_rate_units») ⌝ }
+    ensures { λ _. ⌜ now (out .exit) ≡ textAfter (now (out .entry)) at (recordLine number «first_us» origin «frequency_uhz» «frequency_rate_units») ⌝ }
 {
-    let count = record_line_length(number, first_us, origin, frequency_uhz, rate_units);
+    let count = record_line_length(number, first_us, origin, frequency_uhz, frequency_rate_units);
     if room(out.len(), at, count) {
-        Put::Next(write_record_line(out, at, number, first_us, origin, frequency_uhz, rate_units))
+        Put::Next(write_record_line(out, at, number, first_us, origin, frequency_uhz, frequency_rate_units))
     } else {
         Put::Full
     }

@@ -8,13 +8,13 @@ use native.Mathlib.Omega.{arith}
 use lib.Dec.{ltb}
 use borrow.Author.Tests.{ltb-true}
 use Rattle.header.specs.Header.{headerOf}
-use Rattle.rates.specs.Rates.{rateHz}
-use Rattle.record.specs.Refusal.{_when_, first}
+use Rattle.sample_rates.specs.Rates.{rateHz}
+use Rattle.answers.specs.Refusal.{_when_, first}
 use Rattle.record.specs.Record.{recordRefusal, lastMs}
 use Rattle.record.proofs.Accepted.{record-facts}
-use Rattle.record.specs.Stretch.{lineOf, sampleCount}
+use Rattle.record.specs.Stretch.{recordRate, sampleCount}
 use Rattle.samples.proofs.Judged.{count-small}
-use Rattle.record.proofs.Refusals.{then-zero}
+use Rattle.answers.proofs.Refusals.{then-zero}
 use Rattle.times.specs.SampleTime.{timeRefusal}
 
 -- fewer than 1,000 intervals of at most a second
@@ -24,13 +24,13 @@ product-small k interval p q = mul-le-mul {n₁ = k} {m₁ = interval} {n₂ = 9
 pub record Timed (b : List ℕ) (k : ℕ) : Type 0 where
   pub accepted : recordRefusal b ≡ 0
   pub there : k < sampleCount b
-  pub positive : 1 ≤ rateHz (lineOf b)
+  pub positive : 1 ≤ rateHz (recordRate b)
   pub tag : headerOf b .«time_tag_ms» ≤ lastMs
   pub small : k < 1000
 
 module _ (b : List ℕ) (k : ℕ) where
-  has-rate : recordRefusal b ≡ 0 → 1 ≤ rateHz (lineOf b)
-  unfolding lineOf
+  has-rate : recordRefusal b ≡ 0 → 1 ≤ rateHz (recordRate b)
+  unfolding recordRate
   has-rate e = record-facts b e .line .positive
 
   is-there : (t : Bool) → first (12 when not t ∷ []) ≡ 0 → t ≡ true

@@ -5,7 +5,7 @@ use lib.Ieee.{Float}
 use Rattle.header.specs.declared.Header.{Header}
 use Rattle.header.specs.Header.{headerOf}
 use Rattle.phase.specs.Phase.{fractionBits, phaseOf}
-use Rattle.record.specs.Answer.{Answer, unless}
+use Rattle.answers.specs.Answer.{Answer, unless}
 use Rattle.record.specs.Record.{recordRefusal}
 
 -- phase 1 and phase 2 of a header

@@ -5,11 +5,11 @@ use mathlib.Core.Bool.{not}
 use mathlib.Core.List.{List, [], _∷_}
 use lib.Dec.{ltb}
 use Rattle.header.specs.Header.{headerOf}
-use Rattle.rates.specs.Rates.{intervalUs}
-use Rattle.record.specs.Answer.{Answer, unless}
-use Rattle.record.specs.Refusal.{_when_, first, _then_}
+use Rattle.sample_rates.specs.Rates.{intervalUs}
+use Rattle.answers.specs.Answer.{Answer, unless}
+use Rattle.answers.specs.Refusal.{_when_, first, _then_}
 use Rattle.record.specs.Record.{recordRefusal}
-use Rattle.record.specs.Stretch.{lineOf, sampleCount}
+use Rattle.record.specs.Stretch.{recordRate, sampleCount}
 
 -- by the tag in milliseconds and the microseconds from a sample to the next
 abbrev pub timeOf : ℕ → ℕ → ℕ → ℕ
@@ -21,4 +21,4 @@ timeRefusal b k = recordRefusal b then first (12 when not (ltb k (sampleCount b)
 
 -- the time of sample k of the record b, or the refusal
 unfoldable pub timeAnswer : List ℕ → ℕ → Answer ℕ
-timeAnswer b k = unless (timeRefusal b k) 0 (timeOf (headerOf b .«time_tag_ms») (intervalUs (lineOf b)) k)
+timeAnswer b k = unless (timeRefusal b k) 0 (timeOf (headerOf b .«time_tag_ms») (intervalUs (recordRate b)) k)

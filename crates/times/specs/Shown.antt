@@ -6,7 +6,7 @@ use lib.Ieee.{Float}
 use lib.Ieee.Exact.{HasValue}
 use Rattle.header.specs.declared.Header.{Header}
 use Rattle.phase.specs.Phase.{fractionBits}
-use Rattle.record.specs.Answer.{Answer, accepted, refused}
+use Rattle.answers.specs.Answer.{Answer, accepted, refused}
 use Rattle.times.specs.declared.TimeAnswer.{TimeAnswer}
 use Rattle.times.specs.declared.TimeAnswer.the-variants as TimeAnswer
 use Rattle.times.specs.declared.PhaseAnswer.{PhaseAnswer}

@@ -6,7 +6,7 @@ ghost use mathlib.Core.List.{[], _∷_};
 ghost use Prim.Native.Nat.{_≤_, _<_};
 ghost use lib.Dec.{ltb};
 ghost use Rattle.header.specs.Header.{headerOf};
-ghost use Rattle.record.specs.Refusal.{_when_, first};
+ghost use Rattle.answers.specs.Refusal.{_when_, first};
 ghost use Rattle.record.specs.Record.{lastMs};
 ghost use Rattle.times.specs.SampleTime.{timeOf, timeRefusal, timeAnswer};
 ghost use Rattle.times.specs.Phases.{phaseAnswer};
@@ -51,7 +51,7 @@ fn judge(bytes: &[u8], k: u64) -> u8
 {
     let line = samples::line_of(bytes);
     let missing = no_sample(line.2, k);
-    record::first_refusal(record::accept(bytes), missing)
+    answers::first_refusal(record::refusal_of(bytes), missing)
 }
 
 // The time of sample k of a record.
@@ -72,7 +72,7 @@ pub fn phases(bytes: &[u8]) -> PhaseAnswer
     ensures { λ r. ⌜ shownPhases r ≡ phaseAnswer (now (bytes .entry)) ⌝ }
     ensures { λ r. ⌜ Exactly (headerOf (now (bytes .entry))) r ⌝ }
 {
-    let n = record::accept(bytes);
+    let n = record::refusal_of(bytes);
     if n != 0 {
         return PhaseAnswer::Refused(n);
     }

@@ -53,5 +53,5 @@ abbrev pub countLimit : ℕ
 countLimit = 65536
 
 -- the samples of each channel in a stretch, four bytes a set
-abbrev pub countOf : List ℕ → ℕ
-countOf stretch = min (length stretch / 4) countLimit
+abbrev pub setCount : List ℕ → ℕ
+setCount stretch = min (length stretch / 4) countLimit

@@ -5,7 +5,7 @@ ghost use Prim.Native.Nat.{_+_, _*_, _≤_, _<_};
 ghost use lib.IntN.{natAbs};
 ghost use lib.ListN.{length};
 ghost use Rattle.channels.specs.Sample.{sampleOf};
-ghost use Rattle.totals.specs.Total.{lesser, greater, totalsOf, countLimit, countOf};
+ghost use Rattle.totals.specs.Total.{lesser, greater, totalsOf, countLimit, setCount};
 ghost use Rattle.totals.specs.Running.{nextOf, Room, runningsOf, totalAt, channelNext};
 
 // The most samples a channel that one call takes: more than any record has.
@@ -34,13 +34,13 @@ fn squared(sample: i8) -> u64
     (wide * wide) as u64
 }
 
-fn lower(a: i8, b: i8) -> i8
+fn lesser(a: i8, b: i8) -> i8
     ensures { λ r. ⌜ r ≡ lesser a b ⌝ }
 {
     if a < b { a } else { b }
 }
 
-fn higher(a: i8, b: i8) -> i8
+fn greater(a: i8, b: i8) -> i8
     ensures { λ r. ⌜ r ≡ greater a b ⌝ }
 {
     if b < a { a } else { b }
@@ -55,8 +55,8 @@ impl Total {
         Total {
             sum: self.sum + widened(sample),
             squares: self.squares + squared(sample),
-            least: lower(self.least, sample),
-            greatest: higher(self.greatest, sample),
+            least: lesser(self.least, sample),
+            greatest: greater(self.greatest, sample),
         }
     }
 }
@@ -125,7 +125,7 @@ fn sum_sets(stretch: &[u8], count: usize) -> [Total; 4]
 
 // The totals of channels 1 to 4 over a stretch of samples; of more than 65,536 samples a channel, the first ones.
 pub fn stretch_totals(stretch: &[u8]) -> [Total; 4]
-    ensures { λ r. ⌜ r ≡ totalsOf (now (stretch .entry)) (countOf (now (stretch .entry))) ⌝ }
+    ensures { λ r. ⌜ r ≡ totalsOf (now (stretch .entry)) (setCount (now (stretch .entry))) ⌝ }
 {
-    sum_sets(stretch, lists::smaller(stretch.len() / 4, COUNT_LIMIT))
+    sum_sets(stretch, lists::lesser(stretch.len() / 4, COUNT_LIMIT))
 }

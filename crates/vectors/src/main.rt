@@ -41,7 +41,7 @@ fn print_line(asked: &[u8], number: u8) {
 }
 
 fn refusal_of(bytes: &[u8; 780]) -> u8 {
-    record::accept(bytes)
+    record::refusal_of(bytes)
 }
 
 // Word 6 holds the year in its first seven bits and the day in the other nine.
@@ -56,7 +56,7 @@ fn print_puts(o: Opening, rows: &mut [u32; 60], seconds: &mut [u32; 20]) {
     let mut bytes = lister_case();
     print_line(
         b"record 1 of a second: ",
-        index::put(o, &bytes, rows, seconds),
+        index_update::insert(o, &bytes, rows, seconds),
     );
     set_word(&mut bytes, 2, 2);
     print_line(
@@ -71,7 +71,7 @@ fn print_puts(o: Opening, rows: &mut [u32; 60], seconds: &mut [u32; 20]) {
 }
 
 fn put_again(o: Opening, bytes: &[u8; 780], rows: &mut [u32; 60], seconds: &mut [u32; 20]) -> u8 {
-    index::put(o, bytes, rows, seconds)
+    index_update::insert(o, bytes, rows, seconds)
 }
 
 // An index of one second, from noon on, for the records 1 to 3.
@@ -87,8 +87,8 @@ fn fill_a_second() {
 
 fn main() {
     let bytes = lister_case();
-    print_line(b"the lister's case: ", record::accept(&bytes));
-    print_line(b"79 bytes: ", record::accept(&bytes[0..79]));
+    print_line(b"the lister's case: ", record::refusal_of(&bytes));
+    print_line(b"79 bytes: ", record::refusal_of(&bytes[0..79]));
     print_line(b"day 366 of year 84: ", date_refusal(84 * 512 + 366));
     print_line(b"day 367 of year 84: ", date_refusal(84 * 512 + 367));
     fill_a_second();

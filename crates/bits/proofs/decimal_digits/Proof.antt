@@ -6,14 +6,14 @@ use borrow.Author.Needs.{needs}
 use Rattle.bits.proofs.decimal_digits.Statement.{statement}
 use Rattle.bits.proofs.decimal_digits.Tie as tie
 
-smaller-requires : tie.Need-smaller-requires
-smaller-requires c κs = search needs
+lesser-requires : tie.Need-lesser-requires
+lesser-requires c κs = search needs
 
 digits-good-requires : tie.Need-digits-good-requires
 digits-good-requires c κs = search needs
 
 returns : tie.Need-returns
-returns c = c .digits-good .ensures ∙ ap (λ (n : ℕ). digits n (c .before .before .args .code)) (c .before .smaller .ensures)
+returns c = c .digits-good .ensures ∙ ap (λ (n : ℕ). digits n (c .before .before .args .code)) (c .before .lesser .ensures)
 
 pub decimal-digits-spec : {M : Type 1} → statement M
-decimal-digits-spec = tie.close (tie.spec smaller-requires digits-good-requires returns)
+decimal-digits-spec = tie.close (tie.spec lesser-requires digits-good-requires returns)

@@ -1,19 +1,19 @@
 -- The count cut to the most digits. Assumes nothing.
 use Prim.Native.Nat.{ℕ}
 use mathlib.Core.Path.{ap, _∙_}
-use Rattle.bits.specs.Decimal.{decimal}
+use Rattle.bits.specs.Decimal.{decimalValue}
 use borrow.Author.Needs.{needs}
 use Rattle.bits.proofs.decimal_value.Statement.{statement}
 use Rattle.bits.proofs.decimal_value.Tie as tie
 
-smaller-requires : tie.Need-smaller-requires
-smaller-requires c κs = search needs
+lesser-requires : tie.Need-lesser-requires
+lesser-requires c κs = search needs
 
 digits-value-requires : tie.Need-digits-value-requires
 digits-value-requires c κs = search needs
 
 returns : tie.Need-returns
-returns c = c .digits-value .ensures ∙ ap (λ (n : ℕ). decimal n (c .before .before .args .code)) (c .before .smaller .ensures)
+returns c = c .digits-value .ensures ∙ ap (λ (n : ℕ). decimalValue n (c .before .before .args .code)) (c .before .lesser .ensures)
 
 pub decimal-value-spec : {M : Type 1} → statement M
-decimal-value-spec = tie.close (tie.spec smaller-requires digits-value-requires returns)
+decimal-value-spec = tie.close (tie.spec lesser-requires digits-value-requires returns)

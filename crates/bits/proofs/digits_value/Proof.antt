@@ -1,5 +1,5 @@
 -- The loop over the digits from the most significant on: the invariant says what the digits so far give. Assumes nothing.
-use Rattle.bits.specs.Decimal.{decimal}
+use Rattle.bits.specs.Decimal.{decimalValue}
 use Rattle.bits.proofs.Decimal.{decimal-none, decimal-down, decimal-whole, decimal-small}
 use mathlib.Core.Path.{_≡_, _∙_, ap}
 use Prim.Native.Nat.{ℕ, _≤_, _-_, _*_, _^_, _/_, _%_, _+_}
@@ -9,7 +9,7 @@ use Rattle.bits.proofs.digits_value.Statement.{statement}
 use Rattle.bits.proofs.digits_value.Tie as tie
 
 abbrev Inv-loop : tie.InvT-loop
-Inv-loop count code value₀ left₀ value left = (left ≤ count) × (value ≡ decimal (count - left) (code / 2 ^ (4 * left)))
+Inv-loop count code value₀ left₀ value left = (left ≤ count) × (value ≡ decimalValue (count - left) (code / 2 ^ (4 * left)))
 
 abbrev μ-loop : tie.MeasureT-loop
 μ-loop count code value₀ left₀ value left = left
@@ -50,7 +50,7 @@ loop-again c =
     let a = l .before .args in (
       search needs,
       ap (λ (z : ℕ). z * 10 + a .code / c .two-to .result % 16) (l .loop .inv .1)
-          ∙ ap (λ (z : ℕ). decimal (a .count - l .loop .left) (a .code / 2 ^ (4 * l .loop .left)) * 10 + a .code / z % 16) (c .two-to .ensures .0)
+          ∙ ap (λ (z : ℕ). decimalValue (a .count - l .loop .left) (a .code / 2 ^ (4 * l .loop .left)) * 10 + a .code / z % 16) (c .two-to .ensures .0)
           ∙ decimal-down (a .count) (a .code) (l .loop .left) (search needs) (search needs),
     )
 

@@ -7,8 +7,8 @@ use borrow.Author.Needs.{needs}
 use Rattle.bits.proofs.write_bits.Statement.{statement}
 use Rattle.bits.proofs.write_bits.Tie as tie
 
-smaller-requires : tie.Need-smaller-requires
-smaller-requires c κs = search needs
+lesser-requires : tie.Need-lesser-requires
+lesser-requires c κs = search needs
 
 put-field-requires : tie.Need-put-field-requires
 put-field-requires c κs = search needs
@@ -20,7 +20,7 @@ returns : tie.Need-returns
 returns c =
     let p = c .before .before in
     let a = p .before .before .before .before .args in
-    p .put-field .ensures ∙ ap (λ (w : ℕ). setBits (a .start) w (a .value) (now (a .bytes))) (p .before .smaller .ensures)
+    p .put-field .ensures ∙ ap (λ (w : ℕ). setBits (a .start) w (a .value) (now (a .bytes))) (p .before .lesser .ensures)
 
 pub write-bits-spec : {M : Type 1} → statement M
-write-bits-spec = tie.close (tie.spec smaller-requires put-field-requires same-length returns)
+write-bits-spec = tie.close (tie.spec lesser-requires put-field-requires same-length returns)

@@ -20,8 +20,8 @@ returns c =
     let rule = sampleOf (now (a .stretch)) (a .channel) in
     sym (ap (λ (t : Bool). over (now (a .out)) rule (cond t 0 (min (length (now (a .stretch)) / 4) (length (now (a .out)))))) (c .if1 .taken) ∙ over-none (now (a .out)) rule)
 
-smaller-requires : tie.Need-smaller-requires
-smaller-requires c κs = search needs
+lesser-requires : tie.Need-lesser-requires
+lesser-requires c κs = search needs
 
 copy-channel-requires : tie.Need-copy-channel-requires
 copy-channel-requires c κs =
@@ -31,7 +31,7 @@ copy-channel-requires c κs =
     let bytes = length (now (a .stretch)) in
     let places = length (now (a .out)) in (
       (ltb-false (a .channel) 1 (n .0), ltb-false 4 (a .channel) (n .1)),
-      (stretch-has bytes places (s .smaller .result) (s .smaller .ensures), buffer-holds bytes places (s .smaller .result) (s .smaller .ensures)),
+      (stretch-has bytes places (s .lesser .result) (s .lesser .ensures), buffer-holds bytes places (s .lesser .result) (s .lesser .ensures)),
     )
 
 same-length : tie.Need-same-length
@@ -44,9 +44,9 @@ returns-2 c =
     let a = s .before .before .before .args in
     let rule = sampleOf (now (a .stretch)) (a .channel) in
     k .copy-channel .ensures
-    ∙ ap (over (now (a .out)) rule) (s .smaller .ensures)
+    ∙ ap (over (now (a .out)) rule) (s .lesser .ensures)
     ∙ sym (ap (λ (t : Bool). over (now (a .out)) rule (cond t 0 (min (length (now (a .stretch)) / 4) (length (now (a .out)))))) (s .before .if1 .left))
 
 pub demultiplex-spec : {M : Type 1} → statement M
 demultiplex-spec =
-    tie.close (tie.spec returns smaller-requires copy-channel-requires same-length returns-2)
+    tie.close (tie.spec returns lesser-requires copy-channel-requires same-length returns-2)

@@ -11,17 +11,17 @@ use borrow.Author.Needs.{needs}
 use Rattle.channels.proofs.multiplex.Statement.{statement}
 use Rattle.channels.proofs.multiplex.Tie as tie
 
-smaller-requires : tie.Need-smaller-requires
-smaller-requires c κs = search needs
+lesser-requires : tie.Need-lesser-requires
+lesser-requires c κs = search needs
 
-smaller-requires-2 : tie.Need-smaller-requires-2
-smaller-requires-2 c κs = search needs
+lesser-requires-2 : tie.Need-lesser-requires-2
+lesser-requires-2 c κs = search needs
 
-smaller-requires-3 : tie.Need-smaller-requires-3
-smaller-requires-3 c κs = search needs
+lesser-requires-3 : tie.Need-lesser-requires-3
+lesser-requires-3 c κs = search needs
 
-smaller-requires-4 : tie.Need-smaller-requires-4
-smaller-requires-4 c κs = search needs
+lesser-requires-4 : tie.Need-lesser-requires-4
+lesser-requires-4 c κs = search needs
 
 mul-end : tie.Need-mul-end
 mul-end c = search needs
@@ -33,17 +33,17 @@ slice-aggregate-store-sets : tie.Need-slice-aggregate-store-sets
 slice-aggregate-store-sets c =
     let q = c .before in
     let a = q .before .before .before .before .before .args in
-    let h = all-held (length (now (a .stretch))) (length (now (a .one))) (length (now (a .two))) (length (now (a .three))) (length (now (a .four))) (q .smaller4 .result) (q .before .before .before .smaller .result) (q .before .before .smaller2 .result) (q .before .smaller3 .result)
-    (q .before .before .before .smaller .ensures) (q .before .before .smaller2 .ensures) (q .before .smaller3 .ensures) (q .smaller4 .ensures) in
-    sym (length-take-le (4 * q .smaller4 .result) (now (a .stretch)) (h .room))
+    let h = all-held (length (now (a .stretch))) (length (now (a .one))) (length (now (a .two))) (length (now (a .three))) (length (now (a .four))) (q .lesser4 .result) (q .before .before .before .lesser .result) (q .before .before .lesser2 .result) (q .before .lesser3 .result)
+    (q .before .before .before .lesser .ensures) (q .before .before .lesser2 .ensures) (q .before .lesser3 .ensures) (q .lesser4 .ensures) in
+    sym (length-take-le (4 * q .lesser4 .result) (now (a .stretch)) (h .room))
 
 store-sets-requires : tie.Need-store-sets-requires
 store-sets-requires c κs =
     let q = c .before in
     let a = q .before .before .before .before .before .args in
-    let h = all-held (length (now (a .stretch))) (length (now (a .one))) (length (now (a .two))) (length (now (a .three))) (length (now (a .four))) (q .smaller4 .result) (q .before .before .before .smaller .result) (q .before .before .smaller2 .result) (q .before .smaller3 .result)
-    (q .before .before .before .smaller .ensures) (q .before .before .smaller2 .ensures) (q .before .smaller3 .ensures) (q .smaller4 .ensures) in
-    (length-take-le (4 * q .smaller4 .result) (now (a .stretch)) (h .room), ((h .first, h .second), (h .third, h .fourth)))
+    let h = all-held (length (now (a .stretch))) (length (now (a .one))) (length (now (a .two))) (length (now (a .three))) (length (now (a .four))) (q .lesser4 .result) (q .before .before .before .lesser .result) (q .before .before .lesser2 .result) (q .before .lesser3 .result)
+    (q .before .before .before .lesser .ensures) (q .before .before .lesser2 .ensures) (q .before .lesser3 .ensures) (q .lesser4 .ensures) in
+    (length-take-le (4 * q .lesser4 .result) (now (a .stretch)) (h .room), ((h .first, h .second), (h .third, h .fourth)))
 
 same-length : tie.Need-same-length
 same-length c = search needs
@@ -54,19 +54,19 @@ returns c =
     let q = s .before .before in
     let a = q .before .before .before .before .before .args in
     let e =
-    q .smaller4 .ensures
-    ∙ ap (min (length (now (a .stretch)) / 4)) (q .before .smaller3 .ensures ∙ (λ i. min (q .before .before .before .smaller .ensures i) (q .before .before .smaller2 .ensures i))) in
-    ap (λ (l : List ℕ). l ++ drop (4 * q .smaller4 .result) (now (a .stretch))) (s .store-sets .ensures)
+    q .lesser4 .ensures
+    ∙ ap (min (length (now (a .stretch)) / 4)) (q .before .lesser3 .ensures ∙ (λ i. min (q .before .before .before .lesser .ensures i) (q .before .before .lesser2 .ensures i))) in
+    ap (λ (l : List ℕ). l ++ drop (4 * q .lesser4 .result) (now (a .stretch))) (s .store-sets .ensures)
     ∙ (λ i. interleaved (e i) (now (a .one)) (now (a .two)) (now (a .three)) (now (a .four)) ++ drop (4 * e i) (now (a .stretch)))
 
 pub multiplex-spec : {M : Type 1} → statement M
 multiplex-spec =
     tie.close
     (tie.spec
-    smaller-requires
-    smaller-requires-2
-    smaller-requires-3
-    smaller-requires-4
+    lesser-requires
+    lesser-requires-2
+    lesser-requires-3
+    lesser-requires-4
     mul-end
     slice-relend-prefix-store-sets
     slice-aggregate-store-sets

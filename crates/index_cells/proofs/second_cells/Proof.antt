@@ -5,14 +5,14 @@ use borrow.Author.Needs.{needs}
 use Rattle.index_cells.proofs.second_cells.Statement.{statement}
 use Rattle.index_cells.proofs.second_cells.Tie as tie
 
-smaller-requires : tie.Need-smaller-requires
-smaller-requires c κs = search needs
+lesser-requires : tie.Need-lesser-requires
+lesser-requires c κs = search needs
 
 from-rows-requires : tie.Need-from-rows-requires
 from-rows-requires c κs = search needs
 
 returns : tie.Need-returns
-returns c = let a = c .before .before .before .args in c .from-rows .ensures ∙ ap (secondFrom (a .rows .now) (a .second)) (c .before .smaller .ensures)
+returns c = let a = c .before .before .before .args in c .from-rows .ensures ∙ ap (secondFrom (a .rows .now) (a .second)) (c .before .lesser .ensures)
 
 pub second-cells-spec : {M : Type 1} → statement M
-second-cells-spec = tie.close (tie.spec smaller-requires from-rows-requires returns)
+second-cells-spec = tie.close (tie.spec lesser-requires from-rows-requires returns)

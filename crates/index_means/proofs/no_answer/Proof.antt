@@ -2,8 +2,8 @@
 use mathlib.Core.Path.{_∙_}
 use mathlib.Core.List.{[], _∷_}
 use borrow.Author.Needs.{needs}
-use Rattle.record.specs.Answer.{told}
-use Rattle.record.proofs.Refusals.{told-none}
+use Rattle.answers.specs.Answer.{told}
+use Rattle.answers.proofs.Refusals.{told-none}
 use Rattle.index_means.specs.Means.{noMeansEach}
 use Rattle.index_means.proofs.no_answer.Statement.{statement}
 use Rattle.index_means.proofs.no_answer.Tie as tie

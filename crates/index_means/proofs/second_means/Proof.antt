@@ -1,15 +1,15 @@
 -- The means by what the question about the second answers. Assumes nothing.
 use mathlib.Core.Path.{ap, _∙_}
-use Rattle.record.specs.Answer.{accepted}
-use Rattle.record.proofs.Refusals.{unless-none, unless-some}
-use Rattle.index_ask.specs.Shown.{shownSecond}
+use Rattle.answers.specs.Answer.{accepted}
+use Rattle.answers.proofs.Refusals.{unless-none, unless-some}
+use Rattle.index_query.specs.Shown.{shownSecond}
 use Rattle.index_means.specs.Means.{eachMeans, noMeansEach, secondMeans, meansBy, meansAnswer}
 use borrow.Author.Needs.{needs}
 use Rattle.index_means.proofs.second_means.Statement.{statement}
 use Rattle.index_means.proofs.second_means.Tie as tie
 
-ask-requires : tie.Need-ask-requires
-ask-requires c κs = search needs
+query-requires : tie.Need-query-requires
+query-requires c κs = search needs
 
 no-answer-requires : tie.Need-no-answer-requires
 no-answer-requires c κs = search needs
@@ -19,10 +19,10 @@ unfolding meansAnswer
 returns c =
     let ask = c .before .before .before in
     let a = ask .before .before .before .args in
-    let second = shownSecond (ask .ask .result) in
+    let second = shownSecond (ask .query .result) in
     c .no-answer .ensures
     ∙ unless-some (second .number) noMeansEach (secondMeans (a .o) (second .value)) (c .before .if1 .taken)
-    ∙ ap (meansBy (a .o)) (ask .ask .ensures .0)
+    ∙ ap (meansBy (a .o)) (ask .query .ensures .0)
 
 sample-count-requires : tie.Need-sample-count-requires
 sample-count-requires c κs = search needs
@@ -36,16 +36,16 @@ returns-2 c =
     let count = c .before .before in
     let ask = count .before .before .before in
     let a = ask .before .before .before .args in
-    let second = shownSecond (ask .ask .result) in
+    let second = shownSecond (ask .query .result) in
     (λ t. accepted ((c .each-means .ensures ∙ (λ u. eachMeans (second .value .channels) (count .sample-count .ensures .0 u))) t))
     ∙ unless-none (second .number) noMeansEach (secondMeans (a .o) (second .value)) (count .before .if1 .left)
-    ∙ ap (meansBy (a .o)) (ask .ask .ensures .0)
+    ∙ ap (meansBy (a .o)) (ask .query .ensures .0)
 
 pub second-means-spec : {M : Type 1} → statement M
 second-means-spec =
     tie.close
     (tie.spec
-    ask-requires
+    query-requires
     no-answer-requires
     returns
     sample-count-requires

@@ -2,15 +2,15 @@
 use mathlib.Core.Path.{ap}
 use mathlib.Core.Bool.{_||_}
 use lib.Dec.{eqb, ltb}
-use Rattle.rates.specs.declared.Rate.{Rate}
-use Rattle.rates.specs.Rates.{isNoRate}
+use Rattle.sample_rates.specs.declared.SampleRate.{SampleRate}
+use Rattle.sample_rates.specs.Rates.{isNoRate}
 use Rattle.index_model.specs.Opening.{heldWrong}
 use borrow.Author.Needs.{needs}
 use Rattle.index_open.proofs.held_wrong.Statement.{statement}
 use Rattle.index_open.proofs.held_wrong.Tie as tie
 
-rate-of-requires : tie.Need-rate-of-requires
-rate-of-requires c κs = search needs
+sample-rate-of-requires : tie.Need-sample-rate-of-requires
+sample-rate-of-requires c κs = search needs
 
 returns : tie.Need-returns
 unfolding heldWrong
@@ -18,8 +18,8 @@ returns c =
     let r = c .before .before .before .before .before in
     let o = r .before .args .o in
     ap
-    (λ (rate : Rate). isNoRate rate || eqb (o .«tape_number») 0 || (ltb 99 (o .year) || (eqb (o .day) 0 || ltb 366 (o .day))))
-    (r .rate-of .ensures)
+    (λ (rate : SampleRate). isNoRate rate || eqb (o .«tape_number») 0 || (ltb 99 (o .year) || (eqb (o .day) 0 || ltb 366 (o .day))))
+    (r .sample-rate-of .ensures)
 
 pub held-wrong-spec : {M : Type 1} → statement M
-held-wrong-spec = tie.close (tie.spec rate-of-requires returns)
+held-wrong-spec = tie.close (tie.spec sample-rate-of-requires returns)

@@ -1,7 +1,7 @@
 -- The pattern first, then the limits and the lengths. Assumes nothing.
 use mathlib.Core.Path.{_∙_}
 use mathlib.Core.List.{[], _∷_}
-use Rattle.record.specs.Refusal.{_when_, first, _then_}
+use Rattle.answers.specs.Refusal.{_when_, first, _then_}
 use borrow.Author.Needs.{needs}
 use Rattle.index_open.proofs.judge.Statement.{statement}
 use Rattle.index_open.proofs.judge.Tie as tie
@@ -12,11 +12,11 @@ limits-wrong-requires c κs = search needs
 too-small-requires : tie.Need-too-small-requires
 too-small-requires c κs = search needs
 
+limits-refusal-requires : tie.Need-limits-refusal-requires
+limits-refusal-requires c κs = search needs
+
 refusal-of-requires : tie.Need-refusal-of-requires
 refusal-of-requires c κs = search needs
-
-accept-requires : tie.Need-accept-requires
-accept-requires c κs = search needs
 
 first-refusal-requires : tie.Need-first-refusal-requires
 first-refusal-requires c κs = search needs
@@ -26,8 +26,8 @@ returns c =
     let a = c .before in
     let r = a .before in
     let s = r .before in
-    let limits = r .refusal-of .ensures ∙ (λ i. first (13 when s .before .limits-wrong .ensures i ∷ 14 when s .too-small .ensures i ∷ [])) in
-    c .first-refusal .ensures ∙ (λ i. a .accept .ensures i then limits i)
+    let limits = r .limits-refusal .ensures ∙ (λ i. first (13 when s .before .limits-wrong .ensures i ∷ 14 when s .too-small .ensures i ∷ [])) in
+    c .first-refusal .ensures ∙ (λ i. a .refusal-of .ensures i then limits i)
 
 pub judge-spec : {M : Type 1} → statement M
 judge-spec =
@@ -35,7 +35,7 @@ judge-spec =
     (tie.spec
     limits-wrong-requires
     too-small-requires
+    limits-refusal-requires
     refusal-of-requires
-    accept-requires
     first-refusal-requires
     returns)

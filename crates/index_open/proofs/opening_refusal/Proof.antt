@@ -2,7 +2,7 @@
 use mathlib.Core.Path.{_∙_}
 use mathlib.Core.Bool.{_||_}
 use mathlib.Core.List.{[], _∷_}
-use Rattle.record.specs.Refusal.{_when_, first}
+use Rattle.answers.specs.Refusal.{_when_, first}
 use Rattle.index_model.specs.Opening.{openingRefusal}
 use borrow.Author.Needs.{needs}
 use Rattle.index_open.proofs.opening_refusal.Statement.{statement}
@@ -17,15 +17,15 @@ held-wrong-requires c κs = search needs
 too-small-requires : tie.Need-too-small-requires
 too-small-requires c κs = search needs
 
-refusal-of-requires : tie.Need-refusal-of-requires
-refusal-of-requires c κs = search needs
+limits-refusal-requires : tie.Need-limits-refusal-requires
+limits-refusal-requires c κs = search needs
 
 returns : tie.Need-returns
 unfolding openingRefusal
 returns c =
     let s = c .before in
     let h = s .before in
-    c .refusal-of .ensures
+    c .limits-refusal .ensures
     ∙ (λ i. first (13 when (h .before .limits-wrong .ensures i || h .held-wrong .ensures i) ∷ 14 when s .too-small .ensures i ∷ []))
 
 pub opening-refusal-spec : {M : Type 1} → statement M
@@ -35,5 +35,5 @@ opening-refusal-spec =
     limits-wrong-requires
     held-wrong-requires
     too-small-requires
-    refusal-of-requires
+    limits-refusal-requires
     returns)

@@ -7,11 +7,11 @@ use native.Mathlib.Omega.{arith}
 use denote.Ref.{now}
 use lib.ListN.{take, drop}
 use Rattle.header.specs.declared.Header.{Header}
-use Rattle.rates.specs.Rates.{rateOf, samplesPerRecord}
+use Rattle.sample_rates.specs.Rates.{sampleRateOf, samplesPerRecord}
 use Rattle.record.proofs.Accepted.{record-facts, stretch-inside}
 use Rattle.totals.specs.declared.Total.{Total}
 use Rattle.totals.specs.Total.{totalsOf}
-use Rattle.record.specs.Stretch.{lineOf, sampleCount, stretchOf}
+use Rattle.record.specs.Stretch.{recordRate, sampleCount, stretchOf}
 use Rattle.index_row.specs.Row.{AllBounded}
 use Rattle.index_row.proofs.Samples.{totals-bounded}
 use Rattle.index_row.proofs.Row.{row-made}
@@ -20,21 +20,21 @@ use Rattle.index_row.proofs.accepted_row.Statement.{statement}
 use Rattle.index_row.proofs.accepted_row.Tie as tie
 
 -- the bytes, the count and what is known of it
-module _ (c : tie.After-rate-of) where
+module _ (c : tie.After-sample-rate-of) where
   abbrev bytes : List ℕ
   bytes = now (c .before .before .args .bytes)
 
   abbrev count : ℕ
-  count = samplesPerRecord (c .rate-of .result)
+  count = samplesPerRecord (c .sample-rate-of .result)
 
   count-is : count ≡ sampleCount bytes
-  unfolding lineOf
+  unfolding recordRate
   count-is =
-      ap samplesPerRecord (c .rate-of .ensures)
-      ∙ ap (λ (h : Header). samplesPerRecord (rateOf (h .«sample_rate_hz»))) (c .before .before .pre .1)
+      ap samplesPerRecord (c .sample-rate-of .ensures)
+      ∙ ap (λ (h : Header). samplesPerRecord (sampleRateOf (h .«sample_rate_hz»))) (c .before .before .pre .1)
 
   few : count ≤ 1000
-  unfolding lineOf
+  unfolding recordRate
   few = omega (arith, count-is, record-facts bytes (c .before .before .pre .0) .line .most)
 
 -- the totals
@@ -49,11 +49,11 @@ module _ (c : tie.After-record-totals) where
   bounded : AllBounded (count (c .before)) totals
   bounded = totals-bounded _ (count (c .before)) (c .record-totals .ensures) (few (c .before))
 
-rate-of-requires : tie.Need-rate-of-requires
-rate-of-requires c κs = search needs
+sample-rate-of-requires : tie.Need-sample-rate-of-requires
+sample-rate-of-requires c κs = search needs
 
 record-totals-requires : tie.Need-record-totals-requires
-unfolding lineOf
+unfolding recordRate
 record-totals-requires c κs =
     (few c, omega (arith, count-is c, stretch-inside (bytes c) (c .before .before .pre .0)))
 
@@ -103,7 +103,7 @@ pub accepted-row-spec : {M : Type 1} → statement M
 accepted-row-spec =
     tie.close
     (tie.spec
-    rate-of-requires
+    sample-rate-of-requires
     record-totals-requires
     flag-cell-requires
     flag-cell-requires-2

@@ -7,7 +7,7 @@ use native.Mathlib.Omega.{arith}
 use lib.ListN.{length}
 use denote.Ref.{now}
 use Rattle.reel.specs.Reel.{nextPlace}
-use Rattle.listing.specs.Steps.{lineOf, linesFrom, placeFrom}
+use Rattle.listing.specs.Steps.{stepLine, linesFrom, placeFrom}
 use Rattle.listing.proofs.Along.{count-step, place-step, lines-small}
 use Rattle.listing.proofs.count_lines.Statement.{statement}
 use Rattle.listing.proofs.count_lines.Tie as tie
@@ -33,7 +33,7 @@ module _ (c : tie.After-line-length Inv-loop μ-loop) where
   counted : length (linesFrom reel (turn .loop .to-count) (turn .loop .place)) ≡ c .line-length .result + length (linesFrom reel (turn .loop .to-count - 1) (nextPlace reel (turn .loop .place)))
   counted =
       count-step reel (turn .loop .to-count) (turn .loop .place) (omega arith)
-      (c .line-length .ensures ∙ ap (λ (b : List ℕ). length (lineOf b)) (c .before .«record» .ensures))
+      (c .line-length .ensures ∙ ap (λ (b : List ℕ). length (stepLine b)) (c .before .«record» .ensures))
 
 record-requires : tie.Need-record-requires Inv-loop μ-loop
 record-requires c κs = tt

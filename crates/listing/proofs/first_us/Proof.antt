@@ -2,7 +2,7 @@
 use Prim.Native.Nat.{ℕ}
 use mathlib.Core.Path.{_≡_, ap, sym, _∙_}
 use borrow.Author.Needs.{needs}
-use Rattle.record.specs.Answer.{Answer}
+use Rattle.answers.specs.Answer.{Answer}
 use Rattle.times.specs.declared.TimeAnswer.{TimeAnswer}
 use Rattle.times.specs.Shown.{shownTime}
 use Rattle.listing.proofs.first_us.Statement.{statement}

@@ -7,7 +7,7 @@ use lib.ListN.{length}
 use denote.Ref.{now}
 use borrow.Author.Needs.{needs}
 use Rattle.text.proofs.Writing.{written-both}
-use Rattle.text.specs.Number.{decimal, digitsIn}
+use Rattle.text.specs.Number.{decimalText, digitsIn}
 use Rattle.text.specs.Text.{headerLine, refusedLine}
 use Rattle.listing.specs.Listing.{listing, textRefusal}
 use Rattle.listing.specs.Steps.{linesFrom, endLine}
@@ -53,7 +53,7 @@ header-line-length-requires : tie.Need-header-line-length-requires
 header-line-length-requires c κs = search needs
 
 add-count : tie.Need-add-count
-unfolding headerLine refusedLine decimal digitsIn
+unfolding headerLine refusedLine decimalText digitsIn
 add-count c =
     let r = c .before .before in
     record { fits = omega (arith, size r, listing-small (input r), c .before .header-line-length .ensures) }
@@ -62,7 +62,7 @@ end-line-length-requires : tie.Need-end-line-length-requires
 end-line-length-requires c κs = search needs
 
 add-count-2 : tie.Need-add-count-2
-unfolding headerLine refusedLine decimal digitsIn
+unfolding headerLine refusedLine decimalText digitsIn
 add-count-2 c = record { fits = omega (arith, counted c, listing-small (input (c .before .before .before))) }
 
 returns : tie.Need-returns

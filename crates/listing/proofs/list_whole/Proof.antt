@@ -5,8 +5,8 @@ use native.Mathlib.Omega.{arith}
 use lib.ListN.{length}
 use denote.Ref.{now}
 use borrow.Author.Needs.{needs}
-use Rattle.record.specs.Answer.{Answer}
-use Rattle.text.specs.Number.{decimal, digitsIn}
+use Rattle.answers.specs.Answer.{Answer}
+use Rattle.text.specs.Number.{decimalText, digitsIn}
 use Rattle.text.specs.Text.{headerLine, refusedLine}
 use Rattle.listing.specs.Listing.{longestListing}
 use Rattle.listing.proofs.Enough.{always-listed}
@@ -20,7 +20,7 @@ length-of-requires : tie.Need-length-of-requires
 length-of-requires c κs = search needs
 
 returns : tie.Need-returns
-unfolding headerLine refusedLine decimal digitsIn
+unfolding headerLine refusedLine decimalText digitsIn
 returns c =
     let r = c .before in
     let a = r .before .before .before .args in

@@ -8,8 +8,8 @@ use Rattle.listing.proofs.Answers.{text-refused, text-written, too-shor
 use Rattle.listing.proofs.record_line.Statement.{statement}
 use Rattle.listing.proofs.record_line.Tie as tie
 
-accept-requires : tie.Need-accept-requires
-accept-requires c κs = search needs
+refusal-of-requires : tie.Need-refusal-of-requires
+refusal-of-requires c κs = search needs
 
 returns : tie.Need-returns
 returns c =
@@ -17,7 +17,7 @@ returns c =
     let a = t .before .before .before .args in
     let b = now (a .bytes) in
     let out = now (a .out) in
-    text-refused (lineRefusal b out) out (recordText b) (record-refused b out (t .accept .ensures) (c .if1 .taken)) (c .if1 .taken)
+    text-refused (lineRefusal b out) out (recordText b) (record-refused b out (t .refusal-of .ensures) (c .if1 .taken)) (c .if1 .taken)
 
 text-length-requires : tie.Need-text-length-requires
 text-length-requires c κs = search needs
@@ -28,7 +28,7 @@ returns-2 c =
     let a = t .before .before .before .args in
     let b = now (a .bytes) in
     let out = now (a .out) in
-    let j = record-accepted b out (t .accept .ensures) (c .before .before .if1 .left) in
+    let j = record-accepted b out (t .refusal-of .ensures) (c .before .before .if1 .left) in
     text-refused (lineRefusal b out) out (recordText b) (too-short out (recordText b) (c .before .text-length .ensures) (omega arith) ∙ sym j) (λ z. omega (arith, z))
 
 write-text-requires : tie.Need-write-text-requires
@@ -44,7 +44,7 @@ returns-3 c =
     let a = t .before .before .before .args in
     let b = now (a .bytes) in
     let out = now (a .out) in
-    let j = record-accepted b out (t .accept .ensures) (l .before .before .if1 .left) in
+    let j = record-accepted b out (t .refusal-of .ensures) (l .before .before .if1 .left) in
     let count = l .before .text-length .ensures in
     text-written (lineRefusal b out) out (recordText b) (j ∙ has-room out (recordText b) count (omega arith)) count (omega arith) (c .before .before .write-text .ensures .buffer)
 
@@ -52,7 +52,7 @@ pub record-line-spec : {M : Type 1} → statement M
 record-line-spec =
     tie.close
     (tie.spec
-    accept-requires
+    refusal-of-requires
     returns
     text-length-requires
     returns-2

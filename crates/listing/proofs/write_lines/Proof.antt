@@ -8,7 +8,7 @@ use denote.Ref.{now}
 use Rattle.text.specs.Writing.{Room}
 use Rattle.text.proofs.Writing.{room-first}
 use Rattle.reel.specs.Reel.{nextPlace}
-use Rattle.listing.specs.Steps.{lineOf, linesFrom}
+use Rattle.listing.specs.Steps.{stepLine, linesFrom}
 use Rattle.listing.proofs.Along.{lines-step}
 use Rattle.listing.proofs.Writing.{Completes, completes-start, completes-turn, completes-end}
 use Rattle.listing.proofs.write_lines.Statement.{statement}
@@ -35,9 +35,9 @@ module _ (c : tie.After-record Inv-loop μ-loop) where
   abbrev reel : List ℕ
   reel = now (turn .before .before .before .args .reel)
 
-  split : lineOf (now (c .«record» .result)) ++ linesFrom reel (turn .loop .to-write - 1) (nextPlace reel (turn .loop .place)) ≡ linesFrom reel (turn .loop .to-write) (turn .loop .place)
+  split : stepLine (now (c .«record» .result)) ++ linesFrom reel (turn .loop .to-write - 1) (nextPlace reel (turn .loop .place)) ≡ linesFrom reel (turn .loop .to-write) (turn .loop .place)
   split =
-      ap (λ (b : List ℕ). lineOf b ++ linesFrom reel (turn .loop .to-write - 1) (nextPlace reel (turn .loop .place))) (c .«record» .ensures)
+      ap (λ (b : List ℕ). stepLine b ++ linesFrom reel (turn .loop .to-write - 1) (nextPlace reel (turn .loop .place))) (c .«record» .ensures)
       ∙ sym (lines-step reel (turn .loop .to-write) (turn .loop .place) (omega arith))
 
 write-line-requires : tie.Need-write-line-requires Inv-loop μ-loop
@@ -62,7 +62,7 @@ loop-again c =
     let l = w .before in
     let t = turn l .loop in
     let next = ap (linesFrom (reel l) (t .to-write - 1)) (c .next .ensures) in (
-      completes-turn (ap (λ (x : List ℕ). lineOf (now (l .«record» .result)) ++ x) next ∙ split l) (t .inv .0) (w .write-line .ensures),
+      completes-turn (ap (λ (x : List ℕ). stepLine (now (l .«record» .result)) ++ x) next ∙ split l) (t .inv .0) (w .write-line .ensures),
       omega (arith, t .inv .1, w .write-line .kept .0),
     )
 

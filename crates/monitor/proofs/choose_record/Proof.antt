@@ -1,7 +1,7 @@
 -- This record's segment if it is new, else the earlier one's. Assumes nothing.
 use mathlib.Core.Path.{_∙_, ap, sym}
 use denote.Ref.{now}
-use Rattle.record.specs.Answer.{accepted}
+use Rattle.answers.specs.Answer.{accepted}
 use Rattle.monitor.proofs.Answers.{new-in-this, new-in-earlier, new-in-neither}
 use borrow.Author.Needs.{needs}
 use Rattle.monitor.proofs.choose_record.Statement.{statement}

@@ -2,7 +2,7 @@
 use Prim.Native.Nat.{ℕ}
 use mathlib.Core.Path.{ap}
 use mathlib.Core.List.{List}
-use Rattle.record.specs.Answer.{Answer}
+use Rattle.answers.specs.Answer.{Answer}
 use Rattle.monitor.proofs.Places.{shown-at}
 use borrow.Author.Needs.{needs}
 use Rattle.monitor.proofs.segment_refusal.Statement.{statement}

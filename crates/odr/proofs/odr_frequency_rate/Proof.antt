@@ -3,11 +3,11 @@ use denote.Ref.{now}
 use mathlib.Core.Path.{ap, _∙_}
 use lib.IntN.{ℤ, pos}
 use mir.Facts.{toZ-ofZ}
-use Rattle.record.specs.Answer.{told}
+use Rattle.answers.specs.Answer.{told}
 use Rattle.header.specs.Header.{headerOf}
 use Rattle.record.specs.Record.{recordRefusal}
-use Rattle.record.specs.FrequencyRate.{headerRate, rateAnswer}
-use Rattle.record.specs.Shown.{shownRate}
+use Rattle.record.specs.FrequencyRate.{headerRate, frequencyRateAnswer}
+use Rattle.record.specs.Shown.{shownFrequencyRate}
 use Rattle.odr.proofs.Told.{in-case, told-refused}
 use borrow.Author.Needs.{needs}
 use Rattle.odr.proofs.odr_frequency_rate.Statement.{statement}
@@ -25,14 +25,14 @@ enum-known-refusal c = search needs
 returns : tie.Need-returns
 returns c =
     ap (λ (units : ℤ). told 0 units) (toZ-ofZ (search needs))
-    ∙ in-case shownRate (c .before .before .before .frequency-rate .ensures) (c .before .units .given .1)
+    ∙ in-case shownFrequencyRate (c .before .before .before .frequency-rate .ensures) (c .before .units .given .1)
 
 returns-2 : tie.Need-returns-2
-unfolding rateAnswer
+unfolding frequencyRateAnswer
 returns-2 c =
     let call = c .before .before .before in
     let b = now (call .before .before .args .bytes) in
-    told-refused (recordRefusal b) (pos 0) (headerRate (headerOf b)) (in-case shownRate (call .frequency-rate .ensures) (c .before .refusal .given .1))
+    told-refused (recordRefusal b) (pos 0) (headerRate (headerOf b)) (in-case shownFrequencyRate (call .frequency-rate .ensures) (c .before .refusal .given .1))
 
 pub odr-frequency-rate-spec : {M : Type 1} → statement M
 odr-frequency-rate-spec =

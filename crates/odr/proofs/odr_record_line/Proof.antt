@@ -2,7 +2,7 @@
 use mathlib.Core.Path.{ap, _∙_}
 use denote.Ref.{now}
 use lib.ListN.{length}
-use Rattle.record.specs.Answer.{told}
+use Rattle.answers.specs.Answer.{told}
 use Rattle.listing.specs.Listing.{recordText, lineRefusal, textAnswer}
 use Rattle.odr.specs.declared.TextOut.{TextOut}
 use Rattle.odr.proofs.Told.{text-told}

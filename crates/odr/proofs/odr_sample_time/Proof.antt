@@ -1,8 +1,8 @@
 -- The time in its case, or the refusal. Assumes nothing.
 use denote.Ref.{now}
 use Rattle.header.specs.Header.{headerOf}
-use Rattle.rates.specs.Rates.{intervalUs}
-use Rattle.record.specs.Stretch.{lineOf}
+use Rattle.sample_rates.specs.Rates.{intervalUs}
+use Rattle.record.specs.Stretch.{recordRate}
 use Rattle.times.specs.SampleTime.{timeOf, timeRefusal, timeAnswer}
 use Rattle.times.specs.Shown.{shownTime}
 use Rattle.odr.proofs.Told.{in-case, told-refused}
@@ -28,7 +28,7 @@ returns-2 c =
     let call = c .before .before .before in
     let a = call .before .before .args in
     let b = now (a .bytes) in
-    told-refused (timeRefusal b (a .k)) 0 (timeOf (headerOf b .«time_tag_ms») (intervalUs (lineOf b)) (a .k)) (in-case shownTime (call .sample-time .ensures) (c .before .refusal .given .1))
+    told-refused (timeRefusal b (a .k)) 0 (timeOf (headerOf b .«time_tag_ms») (intervalUs (recordRate b)) (a .k)) (in-case shownTime (call .sample-time .ensures) (c .before .refusal .given .1))
 
 pub odr-sample-time-spec : {M : Type 1} → statement M
 odr-sample-time-spec =

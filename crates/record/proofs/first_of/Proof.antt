@@ -1,7 +1,7 @@
 -- Each return: the checks before it do not apply, its own does. Assumes nothing.
 use mathlib.Core.Path.{sym}
 use mathlib.Core.List.{[], _∷_}
-use Rattle.record.specs.Refusal.{_when_, first}
+use Rattle.answers.specs.Refusal.{_when_, first}
 use Rattle.record.proofs.first_of.Statement.{statement}
 use Rattle.record.proofs.first_of.Tie as tie
 

@@ -3,8 +3,8 @@ use mathlib.Core.Path.{_∙_}
 use lib.ListN.{length}
 use denote.Ref.{now}
 use Rattle.header.specs.Header.{headerOf}
-use Rattle.rates.specs.Rates.{rateOf}
-use Rattle.record.specs.Refusal.{first}
+use Rattle.sample_rates.specs.Rates.{sampleRateOf}
+use Rattle.answers.specs.Refusal.{first}
 use Rattle.record.specs.Record.{checksOn, recordRefusal}
 use borrow.Author.Needs.{needs}
 use Rattle.record.proofs.judge_bytes.Statement.{statement}
@@ -59,7 +59,7 @@ returns c =
     ∙ (λ i.
     first
     (checksOn
-    (rateOf (c .before .before .before .before .before .before .before .before .before .before .read-field4 .ensures i))
+    (sampleRateOf (c .before .before .before .before .before .before .before .before .before .before .read-field4 .ensures i))
     (length (now (c .before .before .before .before .before .before .before .before .before .before .before .before .before .before .before .args .bytes)))
     (c .before .before .before .before .before .before .before .before .before .before .before .before .before .read-field .ensures i)
     (c .before .before .before .before .before .before .before .before .before .before .before .before .read-field2 .ensures i)

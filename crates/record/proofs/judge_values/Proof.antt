@@ -3,13 +3,13 @@ use mathlib.Core.Path.{_∙_}
 use mathlib.Core.Bool.{not, _&&_, _||_}
 use mathlib.Core.List.{[], _∷_}
 use lib.Dec.{eqb, ltb}
-use Rattle.record.specs.Refusal.{_when_, first}
+use Rattle.answers.specs.Refusal.{_when_, first}
 use borrow.Author.Needs.{needs}
 use Rattle.record.proofs.judge_values.Statement.{statement}
 use Rattle.record.proofs.judge_values.Tie as tie
 
-rate-of-requires : tie.Need-rate-of-requires
-rate-of-requires c κs = search needs
+sample-rate-of-requires : tie.Need-sample-rate-of-requires
+sample-rate-of-requires c κs = search needs
 
 wrong-length-requires : tie.Need-wrong-length-requires
 wrong-length-requires c κs = search needs
@@ -23,7 +23,7 @@ returns c =
     let a = w .before .before .args in
     c .first-of .ensures
     ∙ (λ i.
-    let rate = w .before .rate-of .ensures i in
+    let rate = w .before .sample-rate-of .ensures i in
     first
     (1 when ltb (a .bytes) 80
     ∷ 2 when w .wrong-length .ensures i
@@ -39,4 +39,4 @@ returns c =
     ∷ []))
 
 pub judge-values-spec : {M : Type 1} → statement M
-judge-values-spec = tie.close (tie.spec rate-of-requires wrong-length-requires first-of-requires returns)
+judge-values-spec = tie.close (tie.spec sample-rate-of-requires wrong-length-requires first-of-requires returns)

@@ -8,9 +8,9 @@ use Rattle.fields.specs.Field.{binaryFits}
 use Rattle.fields.specs.Table.{allFit}
 use Rattle.header.specs.Format.{fields}
 use Rattle.header.specs.Header.{values}
-use Rattle.record.specs.Refusal.{_when_, first}
+use Rattle.answers.specs.Refusal.{_when_, first}
 use Rattle.record.specs.Record.{writeRefusal}
-use Rattle.record.proofs.Refusals.{then-none, then-some}
+use Rattle.answers.proofs.Refusals.{then-none, then-some}
 use borrow.Author.Needs.{needs}
 use Rattle.record.proofs.judge_writing.Statement.{statement}
 use Rattle.record.proofs.judge_writing.Tie as tie

@@ -7,15 +7,15 @@ use Rattle.fields.specs.Table.{readAll}
 use Rattle.header.specs.Format.{fields}
 use Rattle.header.specs.Header.{values}
 use Rattle.header.proofs.Sound.{values-header}
-use Rattle.record.specs.Answer.{accepted, refused}
+use Rattle.answers.specs.Answer.{accepted, refused}
 use Rattle.record.specs.Record.{recordRefusal, headerAnswer}
-use Rattle.record.proofs.Refusals.{unless-none, unless-some}
+use Rattle.answers.proofs.Refusals.{unless-none, unless-some}
 use borrow.Author.Needs.{needs}
 use Rattle.record.proofs.read_header.Statement.{statement}
 use Rattle.record.proofs.read_header.Tie as tie
 
-accept-requires : tie.Need-accept-requires
-accept-requires c κs = search needs
+refusal-of-requires : tie.Need-refusal-of-requires
+refusal-of-requires c κs = search needs
 
 read-fields-requires : tie.Need-read-fields-requires
 read-fields-requires c κs = search needs
@@ -26,15 +26,15 @@ returns c =
     let a = c .before .before in
     let b = now (a .before .before .args .bytes) in
     ap (λ (v : List ℕ). accepted v) (ap values (c .read-fields .ensures) ∙ values-header b)
-    ∙ unless-none (recordRefusal b) [] (readAll fields b) (sym (a .accept .ensures) ∙ c .before .if1 .taken)
+    ∙ unless-none (recordRefusal b) [] (readAll fields b) (sym (a .refusal-of .ensures) ∙ c .before .if1 .taken)
 
 returns-2 : tie.Need-returns-2
 unfolding headerAnswer
 returns-2 c =
     let a = c .before in
     let b = now (a .before .before .args .bytes) in
-    let e = a .accept .ensures in
+    let e = a .refusal-of .ensures in
     ap (λ (n : ℕ). refused [] n) e ∙ unless-some (recordRefusal b) [] (readAll fields b) (λ z. c .if1 .left (e ∙ z))
 
 pub read-header-spec : {M : Type 1} → statement M
-read-header-spec = tie.close (tie.spec accept-requires read-fields-requires returns returns-2)
+read-header-spec = tie.close (tie.spec refusal-of-requires read-fields-requires returns returns-2)

@@ -6,7 +6,7 @@ use Rattle.fields.specs.Table.{writeAll}
 use Rattle.header.specs.Format.{fields}
 use Rattle.header.specs.Header.{values}
 use Rattle.record.specs.Record.{writeRefusal, afterWriting}
-use Rattle.record.proofs.Refusals.{cond-none, cond-some}
+use Rattle.answers.proofs.Refusals.{cond-none, cond-some}
 use borrow.Author.Needs.{needs}
 use Rattle.record.proofs.write_header.Statement.{statement}
 use Rattle.record.proofs.write_header.Tie as tie

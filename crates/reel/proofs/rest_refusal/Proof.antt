@@ -8,7 +8,7 @@ use lib.ListN.{length, take}
 use lib.Seq.{length-take-le}
 use denote.Ref.{now}
 use borrow.Author.Tests.{lt-ltb, le-ltb}
-use Rattle.record.specs.Refusal.{_when_, first, _then_}
+use Rattle.answers.specs.Refusal.{_when_, first, _then_}
 use Rattle.record.specs.Record.{recordRefusal}
 use Rattle.reel.specs.Reel.{wordThree, restChecks, restRefusal}
 use borrow.Author.Needs.{needs}
@@ -42,22 +42,22 @@ returns-2 c =
     let k = c .before .before in
     by-tests (now (k .before .before .args .rest)) (k .word-3 .result) (k .word-3 .ensures .0) false true (c .before .if1 .left) (lt-ltb _ _ (c .if2 .taken))
 
-slice-aggregate-accept : tie.Need-slice-aggregate-accept
-slice-aggregate-accept c =
+slice-aggregate-refusal-of : tie.Need-slice-aggregate-refusal-of
+slice-aggregate-refusal-of c =
     let k = c .before .before .before in
     sym (length-take-le (2 * k .word-3 .result) (now (k .before .before .args .rest)) (c .before .if2 .left))
 
-accept-requires : tie.Need-accept-requires
-accept-requires c κs = search needs
+refusal-of-requires : tie.Need-refusal-of-requires
+refusal-of-requires c κs = search needs
 
 returns-3 : tie.Need-returns-3
 returns-3 c =
     let l = c .before .before in
     let k = l .before .before in
-    c .accept .ensures
+    c .refusal-of .ensures
     ∙ by-tests (now (k .before .before .args .rest)) (k .word-3 .result) (k .word-3 .ensures .0) false false (l .before .if1 .left) (le-ltb _ _ (l .if2 .left))
 
 pub rest-refusal-spec : {M : Type 1} → statement M
 rest-refusal-spec =
     tie.close
-    (tie.spec word-3-requires returns mul-size returns-2 slice-aggregate-accept accept-requires returns-3)
+    (tie.spec word-3-requires returns mul-size returns-2 slice-aggregate-refusal-of refusal-of-requires returns-3)

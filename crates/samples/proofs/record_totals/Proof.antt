@@ -4,10 +4,10 @@ use mathlib.Core.Path.{ap, sym, _∙_}
 use native.Mathlib.Omega.{arith}
 use denote.Ref.{now}
 use lib.ListN.{length, take, drop}
-use Rattle.record.specs.Answer.{accepted, refused}
+use Rattle.answers.specs.Answer.{accepted, refused}
 use Rattle.record.specs.Record.{headerBytes, recordRefusal}
-use Rattle.record.specs.Stretch.{lineOf, sampleCount, stretchOf}
-use Rattle.record.proofs.Refusals.{unless-none, unless-some}
+use Rattle.record.specs.Stretch.{recordRate, sampleCount, stretchOf}
+use Rattle.answers.proofs.Refusals.{unless-none, unless-some}
 use Rattle.record.proofs.Accepted.{stretch-inside}
 use Rattle.totals.specs.Total.{totalsOf}
 use Rattle.samples.specs.Totals.{noTotals, totalsAnswer}
@@ -18,13 +18,13 @@ use Rattle.samples.proofs.record_totals.Tie as tie
 
 -- the stretch lies within an accepted record
 inside : (c : tie.After-sample-count) → 80 + 4 * c .sample-count .result ≤ length (now (c .before .before .before .before .args .bytes))
-unfolding lineOf
+unfolding recordRate
 inside c =
     let accept = c .before .before in
-    omega (arith, stretch-inside (now (accept .before .before .args .bytes)) (sym (accept .accept .ensures) ∙ c .before .if1 .left), c .sample-count .ensures .0)
+    omega (arith, stretch-inside (now (accept .before .before .args .bytes)) (sym (accept .refusal-of .ensures) ∙ c .before .if1 .left), c .sample-count .ensures .0)
 
-accept-requires : tie.Need-accept-requires
-accept-requires c κs = search needs
+refusal-of-requires : tie.Need-refusal-of-requires
+refusal-of-requires c κs = search needs
 
 no-totals-requires : tie.Need-no-totals-requires
 no-totals-requires c κs = search needs
@@ -35,8 +35,8 @@ returns c =
     let accept = c .before .before in
     let b = now (accept .before .before .args .bytes) in
     c .no-totals .ensures
-    ∙ ap (λ (n : ℕ). refused noTotals n) (accept .accept .ensures)
-    ∙ unless-some (recordRefusal b) noTotals (totalsOf (stretchOf b) (sampleCount b)) (λ z. c .before .if1 .taken (accept .accept .ensures ∙ z))
+    ∙ ap (λ (n : ℕ). refused noTotals n) (accept .refusal-of .ensures)
+    ∙ unless-some (recordRefusal b) noTotals (totalsOf (stretchOf b) (sampleCount b)) (λ z. c .before .if1 .taken (accept .refusal-of .ensures ∙ z))
 
 sample-count-requires : tie.Need-sample-count-requires
 sample-count-requires c κs = search needs
@@ -71,13 +71,13 @@ returns-2 c =
     ∙ part-totals b (count .sample-count .result) (inside count) (e .1)
     ∙ (λ i. totalsOf (take (4 * e .0 i) (drop headerBytes b)) (e .0 i))) t
     ))
-    ∙ unless-none (recordRefusal b) noTotals (totalsOf (stretchOf b) (sampleCount b)) (sym (accept .accept .ensures) ∙ count .before .if1 .left)
+    ∙ unless-none (recordRefusal b) noTotals (totalsOf (stretchOf b) (sampleCount b)) (sym (accept .refusal-of .ensures) ∙ count .before .if1 .left)
 
 pub record-totals-spec : {M : Type 1} → statement M
 record-totals-spec =
     tie.close
     (tie.spec
-    accept-requires
+    refusal-of-requires
     no-totals-requires
     returns
     sample-count-requires

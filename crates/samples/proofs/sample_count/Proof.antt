@@ -1,7 +1,7 @@
 -- The line says it, and no line says more than 1,000. Assumes nothing.
 use Prim.Native.Nat.{ℕ, _≤_}
 use mathlib.Core.Path.{ap, sym, subst}
-use Rattle.rates.specs.Rates.{samplesPerRecord}
+use Rattle.sample_rates.specs.Rates.{samplesPerRecord}
 use Rattle.samples.proofs.Judged.{count-small}
 use borrow.Author.Needs.{needs}
 use Rattle.samples.proofs.sample_count.Statement.{statement}

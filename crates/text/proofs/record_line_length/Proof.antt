@@ -42,7 +42,7 @@ returns : tie.Need-returns
 returns c =
     let entry = c .before .before .before .before .before in
     let a = entry .args in
-    omega (arith, ap length (signed-read 5 (entry .fits .rate-units)), record-parts (a .number) (a .first-us) (a .origin) (a .frequency-uhz) (a .rate-units))
+    omega (arith, ap length (signed-read 5 (entry .fits .frequency-rate-units)), record-parts (a .number) (a .first-us) (a .origin) (a .frequency-uhz) (a .frequency-rate-units))
 
 pub record-line-length-spec : {M : Type 1} → statement M
 record-line-length-spec =

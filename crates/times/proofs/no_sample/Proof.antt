@@ -3,7 +3,7 @@ use mathlib.Core.Path.{ap, sym}
 use mathlib.Core.Bool.{Bool, not}
 use mathlib.Core.List.{[], _∷_}
 use borrow.Author.Tests.{lt-ltb, le-ltb}
-use Rattle.record.specs.Refusal.{_when_, first}
+use Rattle.answers.specs.Refusal.{_when_, first}
 use Rattle.times.proofs.no_sample.Statement.{statement}
 use Rattle.times.proofs.no_sample.Tie as tie
 

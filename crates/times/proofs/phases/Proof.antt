@@ -8,25 +8,25 @@ use denote.Ref.{now}
 use Rattle.header.specs.declared.Header.{Header}
 use Rattle.header.specs.Header.{headerOf}
 use Rattle.phase.specs.Phase.{fractionBits}
-use Rattle.record.specs.Answer.{accepted, refused}
+use Rattle.answers.specs.Answer.{accepted, refused}
 use Rattle.record.specs.Record.{recordRefusal}
-use Rattle.record.proofs.Refusals.{unless-none, unless-some}
+use Rattle.answers.proofs.Refusals.{unless-none, unless-some}
 use Rattle.times.specs.Phases.{headerPhases, phaseAnswer}
 use Rattle.times.proofs.Counts.{counts, exactly}
 use borrow.Author.Needs.{needs}
 use Rattle.times.proofs.phases.Statement.{statement}
 use Rattle.times.proofs.phases.Tie as tie
 
-accept-requires : tie.Need-accept-requires
-accept-requires c κs = search needs
+refusal-of-requires : tie.Need-refusal-of-requires
+refusal-of-requires c κs = search needs
 
 returns : tie.Need-returns
 unfolding phaseAnswer
 returns c =
     let j = c .before in
     let b = now (j .before .before .args .bytes) in (
-      ap (λ (n : ℕ). refused [] n) (j .accept .ensures)
-          ∙ unless-some (recordRefusal b) [] (headerPhases (headerOf b)) (λ z. c .if1 .taken (j .accept .ensures ∙ z)),
+      ap (λ (n : ℕ). refused [] n) (j .refusal-of .ensures)
+          ∙ unless-some (recordRefusal b) [] (headerPhases (headerOf b)) (λ z. c .if1 .taken (j .refusal-of .ensures ∙ z)),
       tt,
     )
 
@@ -46,12 +46,12 @@ returns-2 c =
     let j = h .before .before in
     let b = now (j .before .before .args .bytes) in
     let r = h .read-fields .ensures in
-    let small = counts b (j .accept .ensures) (h .before .if1 .left) r in
+    let small = counts b (j .refusal-of .ensures) (h .before .if1 .left) r in
     let p = exactly (c .before .cycles .result) (h .read-fields .result .«phase_1») (small .0) (c .before .cycles .ensures) in
     let q = exactly (c .cycles2 .result) (h .read-fields .result .«phase_2») (small .1) (c .cycles2 .ensures) in (
       (λ i. accepted (p .0 i ∷ q .0 i ∷ []))
           ∙ ap (λ (h : Header). accepted (headerPhases h)) r
-          ∙ unless-none (recordRefusal b) [] (headerPhases (headerOf b)) (sym (j .accept .ensures) ∙ h .before .if1 .left),
+          ∙ unless-none (recordRefusal b) [] (headerPhases (headerOf b)) (sym (j .refusal-of .ensures) ∙ h .before .if1 .left),
       subst (λ (h : Header). HasValue (c .before .cycles .result) false (h .«phase_1») (2 ^ fractionBits) × HasValue (c .cycles2 .result) false (h .«phase_2») (2 ^ fractionBits)) r (p .1, q .1),
     )
 
@@ -59,7 +59,7 @@ pub phases-spec : {M : Type 1} → statement M
 phases-spec =
     tie.close
     (tie.spec
-    accept-requires
+    refusal-of-requires
     returns
     read-fields-requires
     cycles-requires

@@ -4,9 +4,9 @@ use mathlib.Core.Path.{ap, sym, _∙_}
 use native.Mathlib.Nat.{div-le-self, le-trans}
 use native.Mathlib.Omega.{arith}
 use Rattle.header.specs.declared.Header.{Header}
-use Rattle.rates.specs.Rates.{rateHz, intervalUs}
-use Rattle.record.specs.Answer.{accepted, refused}
-use Rattle.record.proofs.Refusals.{unless-none, unless-some}
+use Rattle.sample_rates.specs.Rates.{rateHz, intervalUs}
+use Rattle.answers.specs.Answer.{accepted, refused}
+use Rattle.answers.proofs.Refusals.{unless-none, unless-some}
 use Rattle.times.specs.SampleTime.{timeOf, timeAnswer}
 use Rattle.times.proofs.Timed.{timed}
 use borrow.Author.Needs.{needs}

@@ -6,14 +6,14 @@ use borrow.Author.Needs.{needs}
 use Rattle.totals.proofs.stretch_totals.Statement.{statement}
 use Rattle.totals.proofs.stretch_totals.Tie as tie
 
-smaller-requires : tie.Need-smaller-requires
-smaller-requires c κs = search needs
+lesser-requires : tie.Need-lesser-requires
+lesser-requires c κs = search needs
 
 sum-sets-requires : tie.Need-sum-sets-requires
 sum-sets-requires c κs = search needs
 
 returns : tie.Need-returns
-returns c = c .sum-sets .ensures ∙ ap (totalsOf (now (c .before .before .before .args .stretch))) (c .before .smaller .ensures)
+returns c = c .sum-sets .ensures ∙ ap (totalsOf (now (c .before .before .before .args .stretch))) (c .before .lesser .ensures)
 
 pub stretch-totals-spec : {M : Type 1} → statement M
-stretch-totals-spec = tie.close (tie.spec smaller-requires sum-sets-requires returns)
+stretch-totals-spec = tie.close (tie.spec lesser-requires sum-sets-requires returns)

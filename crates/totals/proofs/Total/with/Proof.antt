@@ -36,11 +36,11 @@ add-t6 c =
     let f : SFits w8 (a .args .sample) = a .fits .sample in
     rw (c .before .squared .ensures, toZ-ofZ w8 (a .args .sample) f) (record { fits = omega (arith, a .pre .squared, byte-square f) })
 
-lower-requires : tie.Need-lower-requires
-lower-requires c κs = search needs
+lesser-requires : tie.Need-lesser-requires
+lesser-requires c κs = search needs
 
-higher-requires : tie.Need-higher-requires
-higher-requires c κs = search needs
+greater-requires : tie.Need-greater-requires
+greater-requires c κs = search needs
 
 returns : tie.Need-returns
 unfolding nextOf
@@ -56,8 +56,8 @@ returns c =
     let back : toZ w8 (ofZ w8 x) ≡ x = toZ-ofZ w8 x f in
     let sum : wide .widened .result ≡ x = rw (wide .widened .ensures, back) in
     let square : low .before .before .before .squared .result ≡ natAbs x * natAbs x = rw (low .before .before .before .squared .ensures, back) in
-    let least : low .lower .result ≡ lesser (t .least) x = rw (low .lower .ensures, back, toZ-ofZ w8 (t .least) fl) in
-    let greatest : c .higher .result ≡ greater (t .greatest) x = rw (c .higher .ensures, back, toZ-ofZ w8 (t .greatest) fg) in
+    let least : low .lesser .result ≡ lesser (t .least) x = rw (low .lesser .ensures, back, toZ-ofZ w8 (t .least) fl) in
+    let greatest : c .greater .result ≡ greater (t .greatest) x = rw (c .greater .ensures, back, toZ-ofZ w8 (t .greatest) fg) in
     rw (sum, square, least, greatest, toZ-ofZ w64 (t .sum) (room-fits (a .pre)), toZ-ofZ w64 x (sfits-widen tt f), toZ-ofZ w64 (t .sum +ℤ x) (room-sum (a .pre) f), toZ-ofZ w8 (lesser (t .least) x) (kept-fits lesser-picks fl f), toZ-ofZ w8 (greater (t .greatest) x) (kept-fits greater-picks fg f))
 
 pub with-spec : {M : Type 1} → statement M
@@ -68,6 +68,6 @@ with-spec =
     add-t4
     squared-requires
     add-t6
-    lower-requires
-    higher-requires
+    lesser-requires
+    greater-requires
     returns)

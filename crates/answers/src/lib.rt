@@ -1,0 +1,14 @@
+// What a call answers: a value, or the number of the first refusal that applies. FORMAT, "Refusal numbers". Every crate above uses
+// this.
+ghost use mathlib.Core.Path.{_≡_};
+ghost use Rattle.answers.specs.Refusal.{_then_};
+
+// The refusal n, or where that is 0 the refusal m.
+pub fn first_refusal(n: u8, m: u8) -> u8
+    ensures { λ r. ⌜ r ≡ n then m ⌝ }
+{
+    if n != 0 {
+        return n;
+    }
+    m
+}

@@ -1,0 +1,41 @@
+-- The size of the rate, then its sign. Assumes nothing.
+use mathlib.Core.Path.{_∙_}
+use native.Mathlib.Omega.{arith}
+use Prim.Native.Nat.{_*_}
+use Rattle.record.proofs.Signs.{size-bound, positive, minus-fits, negative, units-positive, units-negative}
+use borrow.Author.Needs.{needs}
+use Rattle.record.proofs.frequency_rate_units.Statement.{statement}
+use Rattle.record.proofs.frequency_rate_units.Tie as tie
+
+ten-to-requires : tie.Need-ten-to-requires
+ten-to-requires c κs = search needs
+
+mul-size : tie.Need-mul-size
+mul-size c = let t = c in let a = t .before .args in omega (arith, size-bound (a .digits) (t .ten-to .result) (search needs) (search needs))
+
+cast-size : tie.Need-cast-size
+cast-size c = let t = c in let a = t .before .args in record { sfits = omega (arith, size-bound (a .digits) (t .ten-to .result) (search needs) (search needs)) }
+
+returns : tie.Need-returns
+returns c =
+    let t = c .before in
+    let a = t .before .args in
+    positive (a .digits * t .ten-to .result) (size-bound (a .digits) (t .ten-to .result) (search needs) (search needs))
+    ∙ units-positive (a .digits) (a .power) (a .sign) (t .ten-to .result) (t .ten-to .ensures .0) (c .if1 .taken)
+
+sub-result : tie.Need-sub-result
+sub-result c =
+    let t = c .before in
+    let a = t .before .args in
+    minus-fits (a .digits * t .ten-to .result) (size-bound (a .digits) (t .ten-to .result) (search needs) (search needs))
+
+returns-2 : tie.Need-returns-2
+returns-2 c =
+    let t = c .before in
+    let a = t .before .args in
+    negative (a .digits * t .ten-to .result) (size-bound (a .digits) (t .ten-to .result) (search needs) (search needs))
+    ∙ units-negative (a .digits) (a .power) (a .sign) (t .ten-to .result) (t .ten-to .ensures .0) (c .if1 .left)
+
+pub frequency-rate-units-spec : {M : Type 1} → statement M
+frequency-rate-units-spec =
+    tie.close (tie.spec ten-to-requires mul-size cast-size returns sub-result returns-2)

@@ -1,0 +1,82 @@
+-- The seven sample rates of 1985 and what follows from a rate. 01: the table of rates under "The record".
+use Prim.Native.Nat.{ℕ, _+_, _*_, _/_, _%_}
+use mathlib.Core.Bool.{Bool, true, cond, _&&_}
+use mathlib.Core.List.{List, [], _∷_}
+use lib.Dec.{eqb, leb}
+use Rattle.lists.specs.Tests.{all}
+use Rattle.sample_rates.specs.declared.SampleRate.{SampleRate}
+
+-- a line: rate, records a second L, samples a channel, N, words in OP-B, words in OP-A
+abbrev pub line : ℕ → ℕ → ℕ → ℕ → ℕ → ℕ → SampleRate
+line hz l samples n longer shorter = record { 0 = hz; 1 = l; 2 = samples; 3 = n; 4 = longer; 5 = shorter }
+
+abbrev pub rates : List SampleRate
+rates =
+    line 50000 50 1000 2040 2195 2190 ∷
+    line 20000 20 1000 2040 2195 2190 ∷
+    line 10000 10 1000 2040 2195 2190 ∷
+    line 5000 5 1000 2040 2195 2190 ∷
+    line 2000 2 1000 2040 2195 2190 ∷
+    line 1000 2 500 1040 1195 1190 ∷
+    line 200 2 100 240 395 390 ∷
+    []
+
+-- the line of no rate
+abbrev pub noRate : SampleRate
+noRate = line 0 0 0 0 0 0
+
+-- the first line of a table that has the rate, or the line of no rate
+unfoldable pub lineIn : List SampleRate → ℕ → SampleRate
+lineIn [] hz = noRate
+lineIn (l ∷ ls) hz = cond (eqb (l .0) hz) l (lineIn ls hz)
+
+unfoldable pub sampleRateOf : ℕ → SampleRate
+sampleRateOf hz = lineIn rates hz
+
+-- what a line says
+abbrev pub rateHz : SampleRate → ℕ
+rateHz l = l .0
+
+abbrev pub recordsPerSecond : SampleRate → ℕ
+recordsPerSecond l = l .1
+
+abbrev pub samplesPerRecord : SampleRate → ℕ
+samplesPerRecord l = l .2
+
+abbrev pub lastSampleWord : SampleRate → ℕ
+lastSampleWord l = l .3
+
+abbrev pub wordsB : SampleRate → ℕ
+wordsB l = l .4
+
+abbrev pub wordsA : SampleRate → ℕ
+wordsA l = l .5
+
+-- no line of the table has the rate
+abbrev pub isNoRate : SampleRate → Bool
+isNoRate l = eqb (rateHz l) 0
+
+-- the microseconds from a sample to the next
+abbrev pub intervalUs : SampleRate → ℕ
+intervalUs l = 1000000 / rateHz l
+
+-- the one test of a line: L records of its samples make a second of the rate, a million divides evenly, the samples end at
+-- word N, 150 monitor words follow, and in OP-B five words more
+abbrev pub lineTests : SampleRate → List Bool
+lineTests l =
+    leb 1 (rateHz l) ∷
+    eqb (recordsPerSecond l * samplesPerRecord l) (rateHz l) ∷
+    eqb (1000000 % rateHz l) 0 ∷
+    eqb (lastSampleWord l) (40 + 2 * samplesPerRecord l) ∷
+    eqb (wordsA l) (lastSampleWord l + 150) ∷
+    eqb (wordsB l) (lastSampleWord l + 155) ∷
+    leb 1 (samplesPerRecord l) ∷
+    leb (samplesPerRecord l) 1000 ∷
+    []
+
+abbrev pub soundLine : SampleRate → Bool
+soundLine l = all (lineTests l)
+
+abbrev pub soundLines : List SampleRate → Bool
+soundLines [] = true
+soundLines (l ∷ ls) = soundLine l && soundLines ls
