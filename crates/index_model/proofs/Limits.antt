@@ -57,7 +57,7 @@ mostIn (l ∷ ls) = leb (recordsPerSecond l) 50 && mostIn ls
 line-most : (ls : List SampleRate) (hz : ℕ) → T (mostIn ls) → recordsPerSecond (lineIn ls hz) ≤ 50
 unfolding lineIn mostIn
 line-most [] hz t = omega arith
-line-most (l ∷ ls) hz t = by-test (eqb (l .0) hz) (line-most ls hz (right (leb (recordsPerSecond l) 50) (mostIn ls) t))
+line-most (l ∷ ls) hz t = by-test (eqb (l .hz) hz) (line-most ls hz (right (leb (recordsPerSecond l) 50) (mostIn ls) t))
   where
     by-test : (b : Bool) → recordsPerSecond (lineIn ls hz) ≤ 50 → recordsPerSecond (cond b l (lineIn ls hz)) ≤ 50
     by-test true r = leb→le (recordsPerSecond l) 50 (left (leb (recordsPerSecond l) 50) (mostIn ls) t)

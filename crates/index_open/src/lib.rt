@@ -57,7 +57,7 @@ fn held_wrong(o: Opening) -> bool
     ensures { λ r. ⌜ r ≡ heldWrong o ⌝ }
 {
     let rate = sample_rates::sample_rate_of(o.sample_rate_hz);
-    (rate.0 == 0) | (o.tape_number == 0) | ((o.year > 99) | ((o.day == 0) | (o.day > 366)))
+    (rate.hz == 0) | (o.tape_number == 0) | ((o.year > 99) | ((o.day == 0) | (o.day > 366)))
 }
 
 // Whether so many cells are fewer than those of so many rows or seconds; no product, so that no count can wrap.
@@ -134,7 +134,7 @@ pub fn full_count(o: Opening) -> u64
     ensures { λ r. ⌜ r ≡ fullCount o ⌝ }
 {
     let rate = sample_rates::sample_rate_of(o.sample_rate_hz);
-    rate.1
+    rate.records
 }
 
 // F, C and R as given, with the pattern's values that 15 compares.

@@ -105,7 +105,7 @@ pub fn sample_count(o: Opening, records: u32) -> u64
     ensures { λ r. ⌜ (r ≡ records * samplesPerRecord (sampleRateOf (o .«sample_rate_hz»))) × (r ≤ sampleLimit) ⌝ }
 {
     let rate = sample_rates::sample_rate_of(o.sample_rate_hz);
-    index_cells::wide(records) * rate.2
+    index_cells::wide(records) * rate.samples
 }
 
 // The totals of channels 1 to 4.

@@ -114,7 +114,7 @@ fn accepted_row(bytes: &[u8], h: Header) -> [u32; 20]
     ensures { λ r. ⌜ r ≡ rowOf (now (bytes .entry)) ⌝ }
 {
     let rate = sample_rates::sample_rate_of(h.sample_rate_hz);
-    let count = rate.2 as usize;
+    let count = rate.samples as usize;
     let totals = record_totals(bytes, count);
     let origin = flag_cell(h.clock_origin);
     let error = flag_cell(h.copy_error);

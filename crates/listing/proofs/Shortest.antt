@@ -27,7 +27,7 @@ longLines (l ∷ ls) = longLine l && longLines ls
 long-in : (ls : List SampleRate) (hz : ℕ) → T (longLines ls) → 1 ≤ rateHz (lineIn ls hz) → shortestRecord ≤ 2 * wordsA (lineIn ls hz)
 unfolding lineIn
 long-in [] hz t h = absurd (let z : ⊥ = omega arith in z)
-long-in (l ∷ ls) hz t h = by-test (eqb (l .0) hz) (long-in ls hz (right (longLine l) (longLines ls) t)) h
+long-in (l ∷ ls) hz t h = by-test (eqb (l .hz) hz) (long-in ls hz (right (longLine l) (longLines ls) t)) h
   where
     by-test : (b : Bool) → (1 ≤ rateHz (lineIn ls hz) → shortestRecord ≤ 2 * wordsA (lineIn ls hz))
         → 1 ≤ rateHz (cond b l (lineIn ls hz)) → shortestRecord ≤ 2 * wordsA (cond b l (lineIn ls hz))

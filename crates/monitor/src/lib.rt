@@ -68,7 +68,7 @@ fn last_sample_word(bytes: &[u8]) -> usize
 {
     let h = header::read_fields(bytes);
     let rate = sample_rates::sample_rate_of(h.sample_rate_hz);
-    rate.3 as usize
+    rate.last_word as usize
 }
 
 // The segment of a row in an accepted record. The first word after the samples is the status, whose bit 1 is row 0's.

@@ -19,14 +19,14 @@ module _ (ls : List SampleRate) (hz k : ℕ) (h : k < length ls) where
   rest : drop k ls ≡ getD ls k noRate ∷ drop (k + 1) ls
   rest = drop-cons ls k noRate h ∙ ap (λ (n : ℕ). getD ls k noRate ∷ drop n ls) (sym (add-one k))
 
-  step : lineIn (drop k ls) hz ≡ cond (eqb (getD ls k noRate .0) hz) (getD ls k noRate) (lineIn (drop (k + 1) ls) hz)
+  step : lineIn (drop k ls) hz ≡ cond (eqb (getD ls k noRate .hz) hz) (getD ls k noRate) (lineIn (drop (k + 1) ls) hz)
   unfolding lineIn
   step = ap (λ (l : List SampleRate). lineIn l hz) rest
 
-  pub found : getD ls k noRate .0 ≡ hz → lineIn (drop k ls) hz ≡ getD ls k noRate
+  pub found : getD ls k noRate .hz ≡ hz → lineIn (drop k ls) hz ≡ getD ls k noRate
   found e = step ∙ ap (λ (t : Bool). cond t (getD ls k noRate) (lineIn (drop (k + 1) ls) hz)) (eq-eqb _ _ e)
 
-  pub passed : (getD ls k noRate .0 ≡ hz → ⊥) → lineIn (drop (k + 1) ls) hz ≡ lineIn (drop k ls) hz
+  pub passed : (getD ls k noRate .hz ≡ hz → ⊥) → lineIn (drop (k + 1) ls) hz ≡ lineIn (drop k ls) hz
   passed e = sym (step ∙ ap (λ (t : Bool). cond t (getD ls k noRate) (lineIn (drop (k + 1) ls) hz)) (ne-eqb _ _ e))
 
 pub none-left : (ls : List SampleRate) (hz k : ℕ) → length ls ≤ k → lineIn (drop k ls) hz ≡ noRate
@@ -65,11 +65,11 @@ of-test hz l e t =
 in-lines : (ls : List SampleRate) (hz : ℕ) → T (soundLines ls) → (lineIn ls hz ≡ noRate) ⊎ SoundLine hz (lineIn ls hz)
 unfolding lineIn
 in-lines [] hz t = inl refl
-in-lines (l ∷ ls) hz t = by-test (eqb (l .0) hz) refl (in-lines ls hz (right (soundLine l) (soundLines ls) t))
+in-lines (l ∷ ls) hz t = by-test (eqb (l .hz) hz) refl (in-lines ls hz (right (soundLine l) (soundLines ls) t))
   where
-    by-test : (b : Bool) → eqb (l .0) hz ≡ b → (lineIn ls hz ≡ noRate) ⊎ SoundLine hz (lineIn ls hz)
+    by-test : (b : Bool) → eqb (l .hz) hz ≡ b → (lineIn ls hz ≡ noRate) ⊎ SoundLine hz (lineIn ls hz)
         → (cond b l (lineIn ls hz) ≡ noRate) ⊎ SoundLine hz (cond b l (lineIn ls hz))
-    by-test true e r = inr (of-test hz l (eqb-true (l .0) hz e) (left (soundLine l) (soundLines ls) t))
+    by-test true e r = inr (of-test hz l (eqb-true (l .hz) hz e) (left (soundLine l) (soundLines ls) t))
     by-test false e r = r
 
 -- the one computed test

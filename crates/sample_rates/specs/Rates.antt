@@ -1,4 +1,4 @@
--- The seven sample rates of 1985 and what follows from a rate. 01: the table of rates under "The record".
+-- The seven sample rates of 1985 and what follows from a rate. FORMAT, "Rates".
 use Prim.Native.Nat.{ℕ, _+_, _*_, _/_, _%_}
 use mathlib.Core.Bool.{Bool, true, cond, _&&_}
 use mathlib.Core.List.{List, [], _∷_}
@@ -8,7 +8,8 @@ use Rattle.sample_rates.specs.declared.SampleRate.{SampleRate}
 
 -- a line: rate, records a second L, samples a channel, N, words in OP-B, words in OP-A
 abbrev pub line : ℕ → ℕ → ℕ → ℕ → ℕ → ℕ → SampleRate
-line hz l samples n longer shorter = record { 0 = hz; 1 = l; 2 = samples; 3 = n; 4 = longer; 5 = shorter }
+line hz l samples n longer shorter =
+    record { hz = hz; records = l; samples = samples; «last_word» = n; «words_b» = longer; «words_a» = shorter }
 
 abbrev pub rates : List SampleRate
 rates =
@@ -28,29 +29,29 @@ noRate = line 0 0 0 0 0 0
 -- the first line of a table that has the rate, or the line of no rate
 unfoldable pub lineIn : List SampleRate → ℕ → SampleRate
 lineIn [] hz = noRate
-lineIn (l ∷ ls) hz = cond (eqb (l .0) hz) l (lineIn ls hz)
+lineIn (l ∷ ls) hz = cond (eqb (l .hz) hz) l (lineIn ls hz)
 
 unfoldable pub sampleRateOf : ℕ → SampleRate
 sampleRateOf hz = lineIn rates hz
 
 -- what a line says
 abbrev pub rateHz : SampleRate → ℕ
-rateHz l = l .0
+rateHz l = l .hz
 
 abbrev pub recordsPerSecond : SampleRate → ℕ
-recordsPerSecond l = l .1
+recordsPerSecond l = l .records
 
 abbrev pub samplesPerRecord : SampleRate → ℕ
-samplesPerRecord l = l .2
+samplesPerRecord l = l .samples
 
 abbrev pub lastSampleWord : SampleRate → ℕ
-lastSampleWord l = l .3
+lastSampleWord l = l .«last_word»
 
 abbrev pub wordsB : SampleRate → ℕ
-wordsB l = l .4
+wordsB l = l .«words_b»
 
 abbrev pub wordsA : SampleRate → ℕ
-wordsA l = l .5
+wordsA l = l .«words_a»
 
 -- no line of the table has the rate
 abbrev pub isNoRate : SampleRate → Bool

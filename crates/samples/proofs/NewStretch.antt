@@ -63,7 +63,7 @@ module _ (b : List ℕ) (inside : 80 + 4 * sampleCount b ≤ length b) where
 
     pub new-count : sampleCount (withStretch b stretch) ≡ sampleCount b
     unfolding recordRate
-    new-count = ap (λ (h : Header). sampleRateOf (h .«sample_rate_hz») .2) new-header
+    new-count = ap (λ (h : Header). sampleRateOf (h .«sample_rate_hz») .samples) new-header
 
     new-rest : drop 80 (withStretch b stretch) ≡ stretch ++ rest
     unfolding withStretch

@@ -32,7 +32,7 @@ pub fn sample_count(bytes: &[u8]) -> usize
     ensures { λ r. ⌜ (r ≡ sampleCount (now (bytes .entry))) × (r ≤ 1000) ⌝ }
 {
     let line = line_of(bytes);
-    let count = line.2;
+    let count = line.samples;
     count as usize
 }
 

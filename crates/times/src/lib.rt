@@ -50,7 +50,7 @@ fn judge(bytes: &[u8], k: u64) -> u8
     ensures { λ r. ⌜ r ≡ timeRefusal (now (bytes .entry)) k ⌝ }
 {
     let line = samples::line_of(bytes);
-    let missing = no_sample(line.2, k);
+    let missing = no_sample(line.samples, k);
     answers::first_refusal(record::refusal_of(bytes), missing)
 }
 
@@ -64,7 +64,7 @@ pub fn sample_time(bytes: &[u8], k: u64) -> TimeAnswer
     }
     let h = header::read_fields(bytes);
     let line = samples::line_of(bytes);
-    TimeAnswer::Microseconds(time_of(h.time_tag_ms, SECOND_US / line.0, k))
+    TimeAnswer::Microseconds(time_of(h.time_tag_ms, SECOND_US / line.hz, k))
 }
 
 // The two phases of a record.

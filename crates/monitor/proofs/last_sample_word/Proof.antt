@@ -22,7 +22,7 @@ unfolding lastSampleWordOf recordRate
 returns c =
     let start = c .before .before .before in
     let facts = last-sample-word-facts (now (start .args .bytes)) (start .pre) in
-    let n-is : c .sample-rate-of .result .3 ≡ lastSampleWordOf (now (start .args .bytes)) =
+    let n-is : c .sample-rate-of .result .«last_word» ≡ lastSampleWordOf (now (start .args .bytes)) =
     ap lastSampleWord (c .sample-rate-of .ensures ∙ ap (λ (h : Header). sampleRateOf (h .«sample_rate_hz»)) (c .before .read-fields .ensures)) in
     (n-is, omega (arith, n-is, facts .0), omega (arith, n-is, facts .1))
 

@@ -29,8 +29,8 @@ returns c =
     ∷ 2 when w .wrong-length .ensures i
     ∷ 3 when eqb (a .conversion) 1
     ∷ 4 when not (eqb (a .compression) 1)
-    ∷ 5 when eqb (rate .0) 0
-    ∷ 6 when (not (eqb (a .words) (rate .4)) && not (eqb (a .words) (rate .5)))
+    ∷ 5 when eqb (rate .hz) 0
+    ∷ 6 when (not (eqb (a .words) (rate .«words_b»)) && not (eqb (a .words) (rate .«words_a»)))
     ∷ 7 when (eqb (a .tape) 0 || eqb (a .number) 0)
     ∷ 8 when (ltb 99 (a .year) || (eqb (a .day) 0 || ltb 366 (a .day)))
     ∷ 9 when (ltb 86399999 (a .tag) || ltb 86399999 (a .readback-tag))

@@ -1,4 +1,3 @@
--- The branches in the order of the table's lines: a branch taken gives the line, one left leaves the rest of the table. Assumes nothing.
 use mathlib.Core.Path.{_≡_, refl, sym, ap, _∙_}
 use borrow.Author.Needs.{needs}
 use Rattle.sample_rates.specs.Rates.{rates, lineIn, sampleRateOf}
@@ -6,47 +5,73 @@ use Rattle.sample_rates.proofs.Lines.{passed}
 use Rattle.sample_rates.proofs.sample_rate_of.Statement.{statement}
 use Rattle.sample_rates.proofs.sample_rate_of.Tie as tie
 
+-- a branch taken gives the line
 returns : tie.Need-returns
 unfolding sampleRateOf lineIn
-returns c = sym (ap sampleRateOf (c .if1 .taken))
+returns c = c .line .ensures ∙ sym (ap sampleRateOf (c .before .if1 .taken))
 
 returns-2 : tie.Need-returns-2
 unfolding sampleRateOf lineIn
-returns-2 c = sym (ap sampleRateOf (c .if2 .taken))
+returns-2 c = c .line2 .ensures ∙ sym (ap sampleRateOf (c .before .if2 .taken))
 
 returns-3 : tie.Need-returns-3
 unfolding sampleRateOf lineIn
-returns-3 c = sym (ap sampleRateOf (c .if3 .taken))
+returns-3 c = c .line3 .ensures ∙ sym (ap sampleRateOf (c .before .if3 .taken))
 
 returns-4 : tie.Need-returns-4
 unfolding sampleRateOf lineIn
-returns-4 c = sym (ap sampleRateOf (c .if4 .taken))
+returns-4 c = c .line4 .ensures ∙ sym (ap sampleRateOf (c .before .if4 .taken))
 
 returns-5 : tie.Need-returns-5
 unfolding sampleRateOf lineIn
-returns-5 c = sym (ap sampleRateOf (c .if5 .taken))
+returns-5 c = c .line5 .ensures ∙ sym (ap sampleRateOf (c .before .if5 .taken))
 
 returns-6 : tie.Need-returns-6
 unfolding sampleRateOf lineIn
-returns-6 c = sym (ap sampleRateOf (c .if6 .taken))
+returns-6 c = c .line6 .ensures ∙ sym (ap sampleRateOf (c .before .if6 .taken))
 
 returns-7 : tie.Need-returns-7
 unfolding sampleRateOf lineIn
-returns-7 c = sym (ap sampleRateOf (c .if7 .taken))
+returns-7 c = c .line7 .ensures ∙ sym (ap sampleRateOf (c .before .if7 .taken))
 
+-- one left leaves the rest of the table
 returns-8 : tie.Need-returns-8
 unfolding sampleRateOf lineIn
 returns-8 c =
-    let hz = c .before .before .before .before .before .before .before .args .hz in
-    passed rates hz 6 (search needs) (λ e. c .if7 .left (sym e))
-    ∙ passed rates hz 5 (search needs) (λ e. c .before .if6 .left (sym e))
-    ∙ passed rates hz 4 (search needs) (λ e. c .before .before .if5 .left (sym e))
-    ∙ passed rates hz 3 (search needs) (λ e. c .before .before .before .if4 .left (sym e))
-    ∙ passed rates hz 2 (search needs) (λ e. c .before .before .before .before .if3 .left (sym e))
-    ∙ passed rates hz 1 (search needs) (λ e. c .before .before .before .before .before .if2 .left (sym e))
-    ∙ passed rates hz 0 (search needs) (λ e. c .before .before .before .before .before .before .if1 .left (sym e))
+    let f = c .before in
+    let e = f .before in
+    let d = e .before in
+    let g = d .before in
+    let h = g .before in
+    let k = h .before in
+    let l = k .before in
+    let hz = l .before .args .hz in
+    c .line8 .ensures
+    ∙ passed rates hz 6 (search needs) (λ z. f .if7 .left (sym z))
+    ∙ passed rates hz 5 (search needs) (λ z. e .if6 .left (sym z))
+    ∙ passed rates hz 4 (search needs) (λ z. d .if5 .left (sym z))
+    ∙ passed rates hz 3 (search needs) (λ z. g .if4 .left (sym z))
+    ∙ passed rates hz 2 (search needs) (λ z. h .if3 .left (sym z))
+    ∙ passed rates hz 1 (search needs) (λ z. k .if2 .left (sym z))
+    ∙ passed rates hz 0 (search needs) (λ z. l .if1 .left (sym z))
 
 pub sample-rate-of-spec : {M : Type 1} → statement M
 sample-rate-of-spec =
     tie.close
-    (tie.spec returns returns-2 returns-3 returns-4 returns-5 returns-6 returns-7 returns-8)
+    (tie.spec
+    (λ c κs. search needs)
+    returns
+    (λ c κs. search needs)
+    returns-2
+    (λ c κs. search needs)
+    returns-3
+    (λ c κs. search needs)
+    returns-4
+    (λ c κs. search needs)
+    returns-5
+    (λ c κs. search needs)
+    returns-6
+    (λ c κs. search needs)
+    returns-7
+    (λ c κs. search needs)
+    returns-8)
