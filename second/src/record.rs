@@ -29,6 +29,19 @@ pub fn rate_of(hz: u64) -> Option<Rate> {
     RATES.into_iter().find(|rate| rate.hz == hz)
 }
 
+/// What follows from a rate: samples of a channel in a record, records of a second, microseconds from one sample to the next.
+#[derive(Clone, Copy, Debug, PartialEq, Eq)]
+pub struct SampleRate {
+    pub samples: u64,
+    pub records_a_second: u64,
+    pub interval_us: u64,
+}
+
+pub fn sample_rate(hz: u64) -> Result<SampleRate, u8> {
+    let Rate { records_a_second, samples, .. } = rate_of(hz).ok_or(5)?;
+    Ok(SampleRate { samples, records_a_second, interval_us: 1_000_000 / hz })
+}
+
 /// The last millisecond of the day.
 pub const LAST_MS: u64 = 86_399_999;
 
