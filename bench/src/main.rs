@@ -1,5 +1,5 @@
-//! Benchmarks of the library, called as C calls it, against plain Rust in the same process (docs/BENCHMARKS.md). It prints what it
-//! saw and whether a goal was met; only an answer that differs between the two makes it fail.
+//! Benchmarks of the library, called as C calls it, against plain Rust in the same process (docs/BENCHMARKS.md). It prints what
+//! it saw and whether a goal was met; only an answer that differs between the two makes it fail.
 
 mod agree;
 mod clock;

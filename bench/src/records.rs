@@ -18,8 +18,8 @@ const HALF: usize = RECORDS / 2;
 const TOTALS: Goal = Goal { most: 1.0, limit: Some(1.5) };
 const HEADER: Goal = Goal { most: 1.5, limit: None };
 
-/// Records of one reel, OP-B at 50,000 samples a second, in one piece of memory. Their samples are random, and so are their fields
-/// but for those of the reel.
+/// Records of one reel, OP-B at 50,000 samples a second, in one piece of memory. Their samples are random, and so are their
+/// fields but for those of the reel.
 pub struct Pool(Vec<u8>);
 
 impl Pool {
