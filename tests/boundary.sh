@@ -10,5 +10,5 @@ trap 'rm -f "$program"' EXIT
 gcc -std=c11 -Wall -Wextra -Werror -Ic tests/boundary.c target/staticlib/libodr.a -o "$program"
 "$program" | diff - tests/boundary.out
 echo '#include "odr.h"' | g++ -std=c++17 -Wall -Wextra -Werror -Ic -fsyntax-only -x c++ -
-cargo test --quiet --release --offline --manifest-path rust/Cargo.toml >/dev/null
+said=$(cargo test --quiet --release --offline --manifest-path rust/Cargo.toml 2>&1) || { echo "$said" >&2; exit 1; }
 echo "tests/boundary.sh: $(grep -c . tests/boundary.out) lines are the same, odr.h is C++ too, rust/ has its names and numbers"
