@@ -1,6 +1,6 @@
-//! 01 "The record" and "Refusal numbers": the rate table, refusals 1 to 11, the header read and written.
+//! FORMAT: "The record", "Rates" and "Refusal numbers": the rate table, refusals 1 to 11, the header read and written.
 
-/// A row of 01's rate table; `n` is the last word of samples, lengths are in words.
+/// A row of the rate table; `n` is the last word of samples, lengths are in words.
 #[derive(Clone, Copy, Debug, PartialEq, Eq)]
 pub struct Rate {
     pub hz: u64,
