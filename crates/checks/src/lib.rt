@@ -55,7 +55,11 @@ pub fn first_check(j: Judged) -> u8
     let length = wrong_length(j.bytes, j.length_words);
     let sync = answers::check(11, (j.clock_origin == 1) & (j.sync != SYNC_PATTERN), 0);
     let digits = answers::check(10, !j.decimals, sync);
-    let times = answers::check(9, (j.time_tag > LAST_MS) | (j.readback_tag > LAST_MS), digits);
+    let times = answers::check(
+        9,
+        (j.time_tag > LAST_MS) | (j.readback_tag > LAST_MS),
+        digits,
+    );
     let dates = answers::check(8, date, times);
     let numbers = answers::check(7, (j.tape_number == 0) | (j.record_number == 0), dates);
     let other_size = (j.length_words != rate.words_b) & (j.length_words != rate.words_a);
