@@ -1,8 +1,8 @@
-use mathlib.Core.Path.{refl, ap, _∙_}
+use mathlib.Core.Path.{refl, ap, sym, _∙_}
 use borrow.Author.Needs.{needs}
 use Rattle.fields.specs.Field.{binaryFits}
 use Rattle.fields.specs.Table.{allFit}
-use Rattle.header_parts.proofs.Laws.{fitted, whole}
+use Rattle.header_parts.proofs.Laws.{then-fitted, whole}
 use Rattle.header.specs.Format.{common1, common2, common3, common4, common5, own1985, fields1985}
 use Rattle.header.proofs.binaries_fit.Statement.{statement}
 use Rattle.header.proofs.binaries_fit.Tie as tie
@@ -14,22 +14,24 @@ returns c =
     let c3 = c4 .before .before in
     let c2 = c3 .before .before in
     let c1 = c2 .before .before in
-    fitted common1 (c .fit-part6 .ensures) (c .before .part5 .ensures)
-    (fitted common2 (c5 .fit-part5 .ensures) (c5 .before .part4 .ensures)
-    (fitted common3 (c4 .fit-part4 .ensures) (c4 .before .part3 .ensures)
-    (fitted common4 (c3 .fit-part3 .ensures) (c3 .before .part2 .ensures)
-    (fitted common5 (c2 .fit-part2 .ensures) (c2 .before .part .ensures)
-    (fitted own1985 (c1 .fit-part .ensures) (c1 .before .own-part .ensures .0) refl)))))
-    ∙ ap (allFit binaryFits fields1985) (whole 46 (c1 .before .before .args .values) (c1 .before .own-part .ensures .1))
+    let start = c1 .before .before in
+    let all = whole 46 (start .args .t1) (search (needs, start .good)) in
+    then-fitted common1 0 (sym all) (c .fit-part6 .ensures) (
+    then-fitted common2 8 (sym all) (c5 .fit-part5 .ensures) (
+    then-fitted common3 16 (sym all) (c4 .fit-part4 .ensures) (
+    then-fitted common4 24 (sym all) (c3 .fit-part3 .ensures) (
+    then-fitted common5 32 (sym all) (c2 .fit-part2 .ensures) (
+    then-fitted own1985 40 (sym all) (c1 .fit-part .ensures) refl)))))
+    ∙ ap (allFit binaryFits fields1985) all
 
 pub binaries-fit-spec : {M : Type 1} → statement M
 binaries-fit-spec =
     tie.close
     (tie.spec
-    (λ c κs. search needs) (λ c κs. search needs)
-    (λ c κs. search needs) (λ c κs. search needs)
-    (λ c κs. search needs) (λ c κs. search needs)
-    (λ c κs. search needs) (λ c κs. search needs)
-    (λ c κs. search needs) (λ c κs. search needs)
-    (λ c κs. search needs) (λ c κs. search needs)
+    (λ c. search needs) (λ c κs. search needs)
+    (λ c. search needs) (λ c κs. search needs)
+    (λ c. search needs) (λ c κs. search needs)
+    (λ c. search needs) (λ c κs. search needs)
+    (λ c. search needs) (λ c κs. search needs)
+    (λ c. search needs) (λ c κs. search needs)
     returns)

@@ -1,11 +1,11 @@
-use mathlib.Core.Path.{refl, ap, _∙_}
-use mathlib.Core.List.{List}
+use mathlib.Core.Path.{ap, _∙_}
 use Prim.Native.Nat.{ℕ}
+use mathlib.Core.List.{List}
 use denote.Ref.{now}
 use borrow.Author.Needs.{needs}
 use Rattle.fields.specs.Table.{writeAll}
 use Rattle.header_parts.specs.Parts.{rowWritten}
-use Rattle.header_parts.proofs.Laws.{written, whole}
+use Rattle.header_parts.proofs.Laws.{then-written, whole}
 use Rattle.header.specs.Format.{common1, common2, common3, common4, common5, own1985, fields1985}
 use Rattle.header.proofs.write_values.Statement.{statement}
 use Rattle.header.proofs.write_values.Tie as tie
@@ -20,23 +20,24 @@ returns c =
     let w2 = w3 .before .before .before .before .before in
     let w1 = w2 .before .before .before .before .before in
     let a = w1 .before .before .before .before .args in
-    written own1985 (w6 .write-part6 .ensures) (w6 .before .own-part .ensures .0)
-    (written common5 (w5 .write-part5 .ensures) (w5 .before .part5 .ensures)
-    (written common4 (w4 .write-part4 .ensures) (w4 .before .part4 .ensures)
-    (written common3 (w3 .write-part3 .ensures) (w3 .before .part3 .ensures)
-    (written common2 (w2 .write-part2 .ensures) (w2 .before .part2 .ensures)
-    (written common1 (w1 .write-part .ensures) (w1 .before .part .ensures) refl)))))
-    ∙ ap (λ (v : List ℕ). writeAll fields1985 v (now (a .bytes))) (whole 46 (a .values) (w6 .before .own-part .ensures .1))
+    let v = a .t2 in
+    then-written own1985 40 v (w6 .write-part6 .ensures) (
+    then-written common5 32 v (w5 .write-part5 .ensures) (
+    then-written common4 24 v (w4 .write-part4 .ensures) (
+    then-written common3 16 v (w3 .write-part3 .ensures) (
+    then-written common2 8 v (w2 .write-part2 .ensures) (
+    w1 .write-part .ensures)))))
+    ∙ ap (λ (l : List ℕ). writeAll fields1985 l (now (a .bytes))) (whole 46 v (search (needs, w1 .before .before .before .before .good)))
 
 pub write-values-spec : {M : Type 1} → statement M
 write-values-spec =
     tie.close
     (tie.spec
-    (λ c κs. search needs) (λ c κs. search needs)
-    (λ c κs. search needs) (λ c κs. search needs)
-    (λ c κs. search needs) (λ c κs. search needs)
-    (λ c κs. search needs) (λ c κs. search needs)
-    (λ c κs. search needs) (λ c κs. search needs)
-    (λ c κs. search needs) (λ c κs. search needs)
+    (λ c. search needs) (λ c κs. search needs)
+    (λ c. search needs) (λ c κs. search needs)
+    (λ c. search needs) (λ c κs. search needs)
+    (λ c. search needs) (λ c κs. search needs)
+    (λ c. search needs) (λ c κs. search needs)
+    (λ c. search needs) (λ c κs. search needs)
     (λ c. search needs)
     returns)
