@@ -1,8 +1,7 @@
-// The header of 1985, read, written and judged by one table of rows. FORMAT, "The record". A header is its list of values in the
+// The header of 1985: its table of rows, and its values read. FORMAT, "The record". A header is its list of values in the
 // table's order: the rows that every edition has, then its own.
 ghost use mathlib.Core.Path.{_≡_};
-ghost use Rattle.fields.specs.Field.{binaryFits, decimalFits};
-ghost use Rattle.fields.specs.Table.{readAll, writeAll, allDigitsGood, allFit};
+ghost use Rattle.fields.specs.Table.{readAll, allDigitsGood};
 ghost use Rattle.header_parts.specs.Parts.{Reads};
 ghost use Rattle.header.specs.Format.{common1, common2, common3, common4, common5, own1985, fields1985};
 use fields::Field;
@@ -107,76 +106,6 @@ pub const REGISTER_1: Field = Field(40, 1, 8, false);
 
 pub const REGISTER_2: Field = Field(40, 9, 8, false);
 
-// No row: fills the last part of a table.
-const NO_FIELD: Field = Field(0, 0, 0, false);
-
-// The format: the rows that every edition has, eight a part, and those of 1985.
-const COMMON_1: [Field; 8] = [
-    CLOCK_ORIGIN,
-    SESSION_START,
-    COPY_ERROR,
-    CONVERSION,
-    COMPRESSION,
-    TAPE_NUMBER,
-    RECORD_NUMBER,
-    LENGTH_WORDS,
-];
-
-const COMMON_2: [Field; 8] = [
-    PRIME_FEA,
-    SECONDARY_FEA,
-    SPACECRAFT,
-    SPC,
-    YEAR,
-    DAY,
-    TIME_TAG,
-    PREDICT_0,
-];
-
-const COMMON_3: [Field; 8] = [
-    PREDICT_1,
-    PREDICT_2,
-    PREDICT_3,
-    PREDICT_4,
-    PREDICT_5,
-    PREDICT_6,
-    PREDICT_7,
-    PREDICT_8,
-];
-
-const COMMON_4: [Field; 8] = [
-    PREDICT_9,
-    STATUS,
-    READBACK,
-    READBACK_TAG,
-    CALCULATED,
-    UPDATE_TAG,
-    FREQUENCY_RATE_DIGITS,
-    FREQUENCY_RATE_POWER,
-];
-
-const COMMON_5: [Field; 8] = [
-    FREQUENCY_RATE_SIGN,
-    PHASE_1,
-    PHASE_2,
-    SELECTOR_1,
-    SELECTOR_2,
-    SELECTOR_3,
-    SELECTOR_4,
-    COUNTER_TAG,
-];
-
-const OWN_1985: [Field; 8] = [
-    FILTER,
-    SAMPLE_RATE,
-    SYNC,
-    WORD_39,
-    REGISTER_1,
-    REGISTER_2,
-    NO_FIELD,
-    NO_FIELD,
-];
-
 // The places, in the list of values, of those that a writer judges.
 pub const AT_CLOCK_ORIGIN: usize = 0;
 
@@ -196,18 +125,19 @@ pub const AT_DAY: usize = 13;
 
 pub const AT_TIME_TAG: usize = 14;
 
-const AT_READBACK: usize = 26;
+pub const AT_READBACK: usize = 26;
 
 pub const AT_READBACK_TAG: usize = 27;
 
-const AT_CALCULATED: usize = 28;
+pub const AT_CALCULATED: usize = 28;
 
-const AT_FREQUENCY_RATE_DIGITS: usize = 30;
+pub const AT_FREQUENCY_RATE_DIGITS: usize = 30;
 
 pub const AT_SAMPLE_RATE: usize = 41;
 
 pub const AT_SYNC: usize = 42;
 
+// The values of each part's rows, every row named: an index into a table would write the table to memory first.
 fn read_common_1(bytes: &[u8]) -> [u64; 8]
     ensures { λ r. ⌜ Reads 0 common1 (now (bytes .entry)) r ⌝ }
 {
@@ -283,6 +213,7 @@ fn read_common_5(bytes: &[u8]) -> [u64; 8]
     ]
 }
 
+// The last part of 1985 is short, and ends in zeros.
 fn read_own_1985(bytes: &[u8]) -> [u64; 8]
     ensures { λ r. ⌜ Reads 0 own1985 (now (bytes .entry)) r ⌝ }
 {
@@ -312,18 +243,6 @@ pub fn read_values(bytes: &[u8]) -> [u64; FIELD_COUNT]
     values
 }
 
-// The values go into their fields; every bit that no field names stays.
-pub fn write_values(bytes: &mut [u8], values: [u64; FIELD_COUNT])
-    ensures { λ _. ⌜ now (bytes .exit) ≡ writeAll fields1985 values (now (bytes .entry)) ⌝ }
-{
-    header_parts::write_part(bytes, COMMON_1, &values, 0);
-    header_parts::write_part(bytes, COMMON_2, &values, 8);
-    header_parts::write_part(bytes, COMMON_3, &values, 16);
-    header_parts::write_part(bytes, COMMON_4, &values, 24);
-    header_parts::write_part(bytes, COMMON_5, &values, 32);
-    header_parts::write_part(bytes, OWN_1985, &values, 40);
-}
-
 // Whether every digit of the decimal fields is at most 9.
 pub fn digits_good(bytes: &[u8]) -> bool
     ensures { λ r. ⌜ r ≡ allDigitsGood fields1985 (now (bytes .entry)) ⌝ }
@@ -332,30 +251,4 @@ pub fn digits_good(bytes: &[u8]) -> bool
     let calculated = fields::good_digits(bytes, CALCULATED);
     let rate = fields::good_digits(bytes, FREQUENCY_RATE_DIGITS);
     readback & (calculated & rate)
-}
-
-// The first number of fifteen digits, and of six.
-const FREQUENCY_BELOW: u64 = 100_000_000_000_000;
-
-const RATE_BELOW: u64 = 100_000;
-
-// Whether every decimal value has no more digits than its field.
-pub fn decimals_fit(values: [u64; FIELD_COUNT]) -> bool
-    ensures { λ r. ⌜ r ≡ allFit decimalFits fields1985 values ⌝ }
-{
-    (values[AT_READBACK] < FREQUENCY_BELOW)
-        & ((values[AT_CALCULATED] < FREQUENCY_BELOW)
-            & (values[AT_FREQUENCY_RATE_DIGITS] < RATE_BELOW))
-}
-
-// Whether every binary value has no more bits than its field.
-pub fn binaries_fit(values: [u64; FIELD_COUNT]) -> bool
-    ensures { λ r. ⌜ r ≡ allFit binaryFits fields1985 values ⌝ }
-{
-    let f = header_parts::fit_part(OWN_1985, &values, 40, true);
-    let e = header_parts::fit_part(COMMON_5, &values, 32, f);
-    let d = header_parts::fit_part(COMMON_4, &values, 24, e);
-    let c = header_parts::fit_part(COMMON_3, &values, 16, d);
-    let b = header_parts::fit_part(COMMON_2, &values, 8, c);
-    header_parts::fit_part(COMMON_1, &values, 0, b)
 }

@@ -4,11 +4,13 @@ use mathlib.Core.List.{List}
 use denote.Ref.{now}
 use borrow.Author.Needs.{needs}
 use Rattle.fields.specs.Table.{writeAll}
+use Rattle.fields.proofs.Tables.{length-write}
+use lib.ListN.{length}
 use Rattle.header_parts.specs.Parts.{rowWritten}
 use Rattle.header_parts.proofs.Laws.{then-written, whole}
 use Rattle.header.specs.Format.{common1, common2, common3, common4, common5, own1985, fields1985}
-use Rattle.header.proofs.write_values.Statement.{statement}
-use Rattle.header.proofs.write_values.Tie as tie
+use Rattle.header_write.proofs.write_values.Statement.{statement}
+use Rattle.header_write.proofs.write_values.Tie as tie
 
 returns : tie.Need-returns
 unfolding rowWritten
@@ -29,6 +31,11 @@ returns c =
     w1 .write-part .ensures)))))
     ∙ ap (λ (l : List ℕ). writeAll fields1985 l (now (a .bytes))) (whole 46 v (search (needs, w1 .before .before .before .before .good)))
 
+same-length : tie.Need-same-length
+same-length c =
+    let a = c .before .before .before .before .before .before .before .before .before .before .before .before .before .before .before .before .before .before .before .before .before .before .before .before .before .before .before .before .before .before .before .args in
+    ap length (returns c) ∙ length-write fields1985 (a .t2) (now (a .bytes))
+
 pub write-values-spec : {M : Type 1} → statement M
 write-values-spec =
     tie.close
@@ -39,5 +46,5 @@ write-values-spec =
     (λ c. search needs) (λ c κs. search needs)
     (λ c. search needs) (λ c κs. search needs)
     (λ c. search needs) (λ c κs. search needs)
-    (λ c. search needs)
+    same-length
     returns)

@@ -3,9 +3,9 @@ use borrow.Author.Needs.{needs}
 use Rattle.fields.specs.Field.{binaryFits}
 use Rattle.fields.specs.Table.{allFit}
 use Rattle.header_parts.proofs.Laws.{then-fitted, whole}
 use Rattle.header.specs.Format.{common1, common2, common3, common4, common5, own1985, fields1985}
-use Rattle.header.proofs.binaries_fit.Statement.{statement}
-use Rattle.header.proofs.binaries_fit.Tie as tie
+use Rattle.header_write.proofs.binaries_fit.Statement.{statement}
+use Rattle.header_write.proofs.binaries_fit.Tie as tie
 
 returns : tie.Need-returns
 returns c =
