@@ -19,10 +19,12 @@ listed k (f ∷ fs) b r h = λ i. h .0 i ∷ listed (suc k) fs b r (h .1) i
 pub then-placed : (at : ℕ) (p : List ℕ) {c b d : List ℕ} → c ≡ placed 0 8 at p b → b ≡ d → c ≡ placed 0 8 at p d
 then-placed at p e q = e ∙ ap (placed 0 8 at p) q
 
-pub then-written : (t : List Field) (at : ℕ) (v : List ℕ) {c b d : List ℕ} → c ≡ writeRows 0 8 t at v b → b ≡ d → c ≡ writeRows 0 8 t at v d
+pub then-written : (t : List Field) (at : ℕ) (v : List ℕ) {c b d : List ℕ}
+    → c ≡ writeRows 0 8 t at v b → b ≡ d → c ≡ writeRows 0 8 t at v d
 then-written t at v e q = e ∙ ap (writeRows 0 8 t at v) q
 
-pub then-fitted : (t : List Field) (at : ℕ) {v w : List ℕ} → v ≡ w → {r s u : Bool} → r ≡ fitRows 0 8 t at v s → s ≡ u → r ≡ fitRows 0 8 t at w u
+pub then-fitted : (t : List Field) (at : ℕ) {v w : List ℕ} → v ≡ w → {r s u : Bool}
+    → r ≡ fitRows 0 8 t at v s → s ≡ u → r ≡ fitRows 0 8 t at w u
 then-fitted t at p e q = e ∙ (λ i. fitRows 0 8 t at (p i) (q i))
 
 -- writing keeps the length

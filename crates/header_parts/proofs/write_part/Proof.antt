@@ -33,7 +33,9 @@ returns c =
 
 same-length : tie.Need-same-length
 same-length c =
-    let a = c .before .before .before .before .before .before .before .before .before .before .before .before .before .before .before .before .before .before .before .before .before .before .before .before .before .before .before .before .before .before .before .before .before .before .before .before .before .before .before .before .before .before .args in
+    let w5 = c .before .before .before .before .before .before .before .before .before .before .before .before .before .before .before .before .before in
+    let w2 = w5 .before .before .before .before .before .before .before .before .before .before .before .before .before .before .before in
+    let a = w2 .before .before .before .before .before .before .before .before .before .before .args in
     ap length (returns c) ∙ length-rows 0 8 (a .t2) (a .at) (now (a .values)) (now (a .bytes))
 
 pub write-part-spec : {M : Type 1} → statement M

@@ -33,7 +33,9 @@ returns c =
 
 same-length : tie.Need-same-length
 same-length c =
-    let a = c .before .before .before .before .before .before .before .before .before .before .before .before .before .before .before .before .before .before .before .before .before .before .before .before .before .before .before .before .before .before .before .args in
+    let w4 = c .before .before .before .before .before .before .before .before .before .before .before .before in
+    let w1 = w4 .before .before .before .before .before .before .before .before .before .before .before .before .before .before .before in
+    let a = w1 .before .before .before .before .args in
     ap length (returns c) ∙ length-write fields1985 (a .t2) (now (a .bytes))
 
 pub write-values-spec : {M : Type 1} → statement M
