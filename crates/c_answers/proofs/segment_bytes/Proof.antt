@@ -1,13 +1,12 @@
--- The first k bytes are there, after k turns. Assumes nothing.
 use Prim.Native.Nat.{ℕ, _≤_, _-_}
 use mathlib.Core.Path.{_≡_}
 use native.Mathlib.Omega.{arith}
 use lib.ListN.{length, getD}
-use Rattle.odr.specs.Out.{longestSegment}
+use Rattle.c_answers.specs.Out.{longestSegment}
 use borrow.Author.Needs.{needs}
 use Rattle.lists.proofs.Fill.{Filled, filled-none, filled-more, tab-ext}
-use Rattle.odr.proofs.copied.Statement.{statement}
-use Rattle.odr.proofs.copied.Tie as tie
+use Rattle.c_answers.proofs.segment_bytes.Statement.{statement}
+use Rattle.c_answers.proofs.segment_bytes.Tie as tie
 
 abbrev Inv-loop : tie.InvT-loop
 Inv-loop bytes copy₀ k₀ copy k = (k ≤ longestSegment) × (length copy₀ ≡ longestSegment) × Filled copy₀ (λ (j : ℕ). getD bytes j 0) 0 k copy
@@ -38,8 +37,8 @@ returns c =
     let l = c .before .loop in
     tab-ext _ longestSegment 0 (l .copy) (search needs) (λ k h. l .inv .2 .low k (omega (arith, h, l .inv .0)))
 
-pub copied-spec : {M : Type 1} → statement M
-copied-spec =
+pub segment-bytes-spec : {M : Type 1} → statement M
+segment-bytes-spec =
     tie.close
     (tie.spec
     Inv-loop

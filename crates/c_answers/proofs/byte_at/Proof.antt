@@ -1,9 +1,8 @@
--- A byte of the list, or its default past the end. Assumes nothing.
 use mathlib.Core.Path.{sym}
 use lib.ListN.{List·getD-eq-default}
 use borrow.Author.Needs.{needs}
-use Rattle.odr.proofs.byte_at.Statement.{statement}
-use Rattle.odr.proofs.byte_at.Tie as tie
+use Rattle.c_answers.proofs.byte_at.Statement.{statement}
+use Rattle.c_answers.proofs.byte_at.Tie as tie
 
 shared-slice-read-result : tie.Need-shared-slice-read-result
 shared-slice-read-result c = search needs
