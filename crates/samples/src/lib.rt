@@ -10,6 +10,7 @@ ghost use Rattle.record.specs.Record.{recordRefusal};
 ghost use Rattle.samples.specs.InOut.{fewer, samplesRefusal, channelAfter, recordAfter};
 ghost use Rattle.samples.specs.Totals.{noTotals, totalsAnswer, shownTotals};
 use header::HEADER_BYTES;
+use totals::NO_TOTAL;
 use totals::Total;
 
 // The totals of channels 1 to 4 over all samples of a record, beside the refusal; with one, they are 0. An enum cannot hold an
@@ -81,15 +82,9 @@ fn no_totals(refusal: u8) -> TotalsAnswer
     requires { ⌜ 1 ≤ refusal ⌝ }
     ensures { λ r. ⌜ shownTotals r ≡ refused noTotals refusal ⌝ }
 {
-    let none = Total {
-        sum: 0,
-        squares: 0,
-        least: 0,
-        greatest: 0,
-    };
     TotalsAnswer {
         refusal,
-        channels: [none; 4],
+        channels: [NO_TOTAL; 4],
     }
 }
 
