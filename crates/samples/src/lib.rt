@@ -26,7 +26,9 @@ fn judge(bytes: &[u8], count: usize, one: usize, two: usize, three: usize, four:
     ensures { λ r. ⌜ r ≡ recordRefusal (now (bytes .entry)) then first (12 when fewer count one two three four ∷ []) ⌝ }
 {
     let short = (one < count) | ((two < count) | ((three < count) | (four < count)));
-    answers::first_refusal(record::refusal_of(bytes), answers::check(12, short, 0))
+    let refusal = record::refusal_of(bytes);
+    let buffers = answers::check(12, short, 0);
+    answers::first_refusal(refusal, buffers)
 }
 
 // The samples of a record, out to the buffers of the four channels; places past them keep their contents. The stretch tells how
