@@ -1,5 +1,4 @@
--- Samples in from channels and out again give the channels back (01: "Samples go out to four lent channel buffers of signed
--- bytes and come back in"). Assumes nothing.
+-- Samples in from channels and out again give the channels back. FORMAT, "Samples". Assumes nothing.
 use Prim.Native.Nat.{ℕ, _+_, _-_, _*_, _≤_, _<_}
 use mathlib.Core.Path.{_≡_, refl, ap, sym, _∙_}
 use mathlib.Core.List.{List, _++_}

@@ -37,4 +37,6 @@ returns-2 c =
     ∙ unless-none (recordRefusal b) noTotals (totalsOf (stretchOf b) (sampleCount b)) z
 
 pub record-totals-spec : {M : Type 1} → statement M
-record-totals-spec = tie.close (tie.spec (λ c κs. search needs) (λ c κs. search needs) returns (λ c κs. search needs) (λ c κs. search needs) returns-2)
+record-totals-spec =
+    tie.close
+    (tie.spec (λ c κs. search needs) (λ c κs. search needs) returns (λ c κs. search needs) (λ c κs. search needs) returns-2)

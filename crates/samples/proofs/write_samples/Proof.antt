@@ -31,4 +31,6 @@ returns-2 c =
 
 pub write-samples-spec : {M : Type 1} → statement M
 write-samples-spec =
-    tie.close (tie.spec (λ c κs. search needs) (λ c κs. search needs) (λ c. search needs) (λ c. search needs) (λ c. search needs) (λ c. search needs) part-multiplex-end (λ c κs. search needs) (λ c. search needs) returns (λ c. search needs) returns-2)
+    tie.close
+    (tie.spec (λ c κs. search needs) (λ c κs. search needs) (λ c. search needs) (λ c. search needs) (λ c. search needs)
+    (λ c. search needs) part-multiplex-end (λ c κs. search needs) (λ c. search needs) returns (λ c. search needs) returns-2)

@@ -1,4 +1,3 @@
--- `totals::with_samples` meets its contract: channel after channel, by `taken`. Assumes nothing.
 use mathlib.Core.Path.{_≡_, sym, ap, _∙_, subst}
 use mathlib.Core.List.{List}
 use Prim.Native.Nat.{ℕ, suc, _<_}
@@ -50,9 +49,4 @@ returns c =
 pub with-samples-spec : {M : Type 1} → statement M
 with-samples-spec =
     tie.close
-    (tie.spec
-    with-channel-requires
-    with-channel-requires-2
-    with-channel-requires-3
-    with-channel-requires-4
-    returns)
+    (tie.spec with-channel-requires with-channel-requires-2 with-channel-requires-3 with-channel-requires-4 returns)
