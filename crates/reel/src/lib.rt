@@ -121,3 +121,10 @@ impl<'a> Reader<'a> {
         }
     }
 }
+
+// What stands at the place, by a reader made there: for callers that hold a reel and a place, as the lister and C.
+pub fn step_by_reader(reel: &[u8], place: usize) -> Step
+    ensures { λ r. ⌜ shownStep r ≡ stepAt (now (reel .entry)) place ⌝ }
+{
+    Reader { reel, place }.peek()
+}
