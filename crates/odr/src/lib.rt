@@ -253,7 +253,7 @@ pub extern "C" fn odr_segment<'a>(
 pub extern "C" fn odr_step(reel: &[u8], place: usize) -> StepOut
     ensures { λ r. ⌜ StepTold r (stepAt (now (reel .entry)) place) ⌝ }
 {
-    match reader_calls::peek(reel, place) {
+    match reel::step_by_reader(reel, place) {
         Step::Record { start, end } => StepOut {
             answer: 0,
             start,
