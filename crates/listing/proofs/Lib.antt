@@ -1,8 +1,7 @@
 pub mod Line
 pub mod Shortest
 pub mod Longest
-pub mod Along
-pub mod Listed
+pub mod Left
 pub mod Answers
 pub mod Writing
 pub mod Cases

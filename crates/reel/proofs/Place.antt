@@ -1,6 +1,6 @@
 -- What each answer at a place of a reel tells. Assumes nothing.
 use Prim.Native.Nat.{ℕ, _+_, _*_, _-_, _≤_, _<_}
-use mathlib.Core.Path.{_≡_, refl, ap, sym, _∙_}
+use mathlib.Core.Path.{_≡_, refl, ap, sym, subst, _∙_}
 use mathlib.Core.Bool.{Bool, true, false, true≢false, cond}
 use mathlib.Core.List.{List, [], _++_}
 use native.Mathlib.Omega.{arith}
@@ -86,6 +86,10 @@ module _ (reel : List ℕ) (place : ℕ) where
     where
       positive : (n : ℕ) → (n ≡ 0 → ⊥) → 1 ≤ n
       positive n f = omega arith
+
+  -- of a record that was found
+  pub stands-at : (start end : ℕ) → stepAt reel place ≡ accepted start end → Stands reel place start end
+  stands-at start end e = subst (Told reel place) e told
 
 -- by what stands there
 module _ (reel : List ℕ) (place : ℕ) where
