@@ -12,6 +12,7 @@ use Rattle.reel.specs.Walk.{isRecord, onward, walk, walkFrom}
 use Rattle.reel.proofs.Place.{stands-at}
 use Rattle.text.specs.Text.{refusedLine}
 use Rattle.listing.specs.Listing.{recordText, recordTexts, lastText, walkText}
+use Rattle.listing.proofs.Writing.{Completes}
 
 -- the text of a walk from the place on, of so many records that it ends
 pub record Left (reel : List ℕ) (place : ℕ) (text : List ℕ) : Type 0 where
@@ -68,3 +69,9 @@ module _ (reel : List ℕ) where
               joined = sym (s ∙ record-text n start end e);
               left = record { steps = n; enough = omega (arith, h, t .here, t .header); same = refl };
             }
+
+-- the invariant of a walk that writes: what is left of its text at the place would complete it
+pub record Walking (before : List ℕ) (at : ℕ) (reel l : List ℕ) (a place : ℕ) : Type 0 where
+  pub rest : List ℕ
+  pub left : Left reel place rest
+  pub completes : Completes before at (walkText (walk reel)) l a rest
