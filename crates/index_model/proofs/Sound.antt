@@ -17,9 +17,9 @@ use Rattle.record.proofs.Accepted.{record-facts}
 use Rattle.totals.proofs.Samples.{Bytes, samples-bytes}
 use Rattle.totals.proofs.Sums.{squares-bound}
 use Rattle.index_model.specs.declared.Opening.{Opening}
-use Rattle.index_model.specs.Records.{secondOf, hasOrigin, hasError, channelSamples}
+use Rattle.index_model.specs.Records.{mostSamples, secondOf, hasOrigin, hasError, channelSamples}
 use Rattle.record.specs.Stretch.{recordRate, sampleCount, stretchOf}
-use Rattle.index_model.specs.Cells.{width, flag, rowOf}
+use Rattle.index_model.specs.Cells.{width, channelCell, flag, rowOf}
 use Rattle.index_model.specs.Opening.{inWindow}
 use Rattle.index_model.specs.Ledger.{Ledger}
 use Rattle.index_model.proofs.Rows.{row-length, row-records, row-origin, row-error, row-second, row-channel}
@@ -65,12 +65,12 @@ module _ (b : List ℕ) (accepted : recordRefusal b ≡ 0) where
   unfolding recordRate
   count-some = record-facts b accepted .line .some
 
-  pub count-most : sampleCount b ≤ 1000
+  pub count-most : sampleCount b ≤ mostSamples
   unfolding recordRate
   count-most = record-facts b accepted .line .most
 
   -- the four cells of a channel (1 to 4)
-  pub row-codes : (c i : ℕ) → 1 ≤ c → c ≤ 4 → i < 4 → getD (rowOf b) (4 * c + i) 0 ≡ getD (codes (channelSamples c b)) i 0
+  pub row-codes : (c i : ℕ) → 1 ≤ c → c ≤ 4 → i < 4 → getD (rowOf b) (channelCell c i) 0 ≡ getD (codes (channelSamples c b)) i 0
   row-codes c i p q r =
       row-channel b c i p q r
       ∙ ap (λ (l : List ℕ). getD l i 0) (cells-codes (channelSamples c b) (samples-signed b c) (sampleCount b) (samples-length b c) count-some)

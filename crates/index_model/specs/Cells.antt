@@ -1,5 +1,5 @@
--- The cells of the index: 20 for each record number, its row, and 20 for each second of the window. 01: "The book", "The
--- ledger". A row and a second have the same cells, and each cell of a second is the sum, or the greatest, of that cell over
+-- The cells of the index: for each record number its row, and for each second of the window as many. FORMAT, "The index of
+-- seconds". A row and a second have the same cells, and each cell of a second is the sum, or the greatest, of that cell over
 -- the rows of its records; no rows give 0. Sums are modulo 2^32, since a cell has 32 bits.
 --
 --   0 records, 1 in a row               4c, 4c + 1  channel c (1 to 4): sum of (sample + 128), sum of squares
@@ -22,6 +22,14 @@ use Rattle.record.specs.Stretch.{sampleCount, stretchOf}
 abbrev pub width : ℕ
 width = 20
 
+-- cell j (0 to 3) of channel c (1 to 4)
+abbrev pub channelCell : ℕ → ℕ → ℕ
+channelCell c j = 4 * c + j
+
+-- a cell is less than this
+abbrev pub cellLimit : ℕ
+cellLimit = 4294967296
+
 -- cell j of row (or second) i, counted from 0
 abbrev pub cell : List ℕ → ℕ → ℕ → ℕ
 cell cells i j = getD cells (width * i + j) 0
@@ -40,9 +48,17 @@ abbrev pub natOf : ℤ → ℕ
 natOf (pos n) = n
 natOf (negsuc n) = 0
 
+-- what makes a sample, and 0 less a sample, a number from 0 up; and a sample a number from 1 up
+abbrev pub sampleOffset : ℕ
+sampleOffset = 128
+
+abbrev pub greatestOffset : ℕ
+greatestOffset = sampleOffset + 1
+
 -- the four cells of a channel's total over n samples
 abbrev pub channelCells : ℕ → Total → List ℕ
-channelCells n t = natOf (t .sum +ℤ pos (128 * n)) ∷ t .squares ∷ natOf (pos 128 -ℤ t .least) ∷ natOf (t .greatest +ℤ pos 129) ∷ []
+channelCells n t =
+    natOf (t .sum +ℤ pos (sampleOffset * n)) ∷ t .squares ∷ natOf (pos sampleOffset -ℤ t .least) ∷ natOf (t .greatest +ℤ pos greatestOffset) ∷ []
 
 abbrev pub allChannelCells : ℕ → List Total → List ℕ
 allChannelCells n [] = []
@@ -65,10 +81,6 @@ noRow = tab (λ (j : ℕ). 0) 0 width
 -- cell j holds the greatest: the third and the fourth of every four cells, but not cell 2, a count; the other cells are sums
 unfoldable pub isGreatest : ℕ → Bool
 isGreatest j = ltb 1 (j % 4) && not (eqb j 2)
-
--- a cell is less than this
-abbrev pub cellLimit : ℕ
-cellLimit = 4294967296
 
 unfoldable pub mergeBy : Bool → ℕ → ℕ → ℕ
 mergeBy true a b = max a b

@@ -21,11 +21,11 @@ ghost use Rattle.index_means.specs.Means.{meansAnswer};
 ghost use Rattle.index_means.specs.Shown.{shownMeans};
 ghost use Rattle.listing.specs.Listing.{lineAnswer, lineAfter, listAnswer, listAfter};
 ghost use Rattle.odr.specs.Out.{valueOr, longestSegment, PhasesTold, SegmentTold, StepTold, textOut};
-use index_query::SecondAnswer;
-use index_query::ConsistencyAnswer;
 use index_means::MeansAnswer;
 use index_model::Opening;
 use index_open::OpenAnswer;
+use index_query::ConsistencyAnswer;
+use index_query::SecondAnswer;
 use listing::ListAnswer;
 use record::FrequencyRateAnswer;
 use reel::Step;
@@ -372,7 +372,11 @@ pub extern "C" fn odr_second_means(
 }
 
 #[no_mangle]
-pub extern "C" fn odr_is_consistent(opening: Opening, rows: &[u32], seconds: &[u32]) -> ConsistencyOut
+pub extern "C" fn odr_is_consistent(
+    opening: Opening,
+    rows: &[u32],
+    seconds: &[u32],
+) -> ConsistencyOut
     ensures { λ r. ⌜ told (r .refusal) (r .consistent) ≡ consistencyAnswer opening (now (rows .entry)) (now (seconds .entry)) ⌝ }
 {
     match index_query::is_consistent(opening, rows, seconds) {

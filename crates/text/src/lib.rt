@@ -257,9 +257,23 @@ pub fn put_record_line(
     ensures { λ r. ⌜ shown r ≡ putText (now (out .entry)) at (recordLine number «first_us» origin «frequency_uhz» «frequency_rate_units») ⌝ }
     ensures { λ _. ⌜ now (out .exit) ≡ textAfter (now (out .entry)) at (recordLine number «first_us» origin «frequency_uhz» «frequency_rate_units») ⌝ }
 {
-    let count = record_line_length(number, first_us, origin, frequency_uhz, frequency_rate_units);
+    let count = record_line_length(
+        number,
+        first_us,
+        origin,
+        frequency_uhz,
+        frequency_rate_units,
+    );
     if room(out.len(), at, count) {
-        Put::Next(write_record_line(out, at, number, first_us, origin, frequency_uhz, frequency_rate_units))
+        Put::Next(write_record_line(
+            out,
+            at,
+            number,
+            first_us,
+            origin,
+            frequency_uhz,
+            frequency_rate_units,
+        ))
     } else {
         Put::Full
     }
