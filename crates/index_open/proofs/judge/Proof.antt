@@ -1,25 +1,9 @@
--- The pattern first, then the limits and the lengths. Assumes nothing.
 use mathlib.Core.Path.{_∙_}
 use mathlib.Core.List.{[], _∷_}
 use Rattle.answers.specs.Refusal.{_when_, first, _then_}
 use borrow.Author.Needs.{needs}
 use Rattle.index_open.proofs.judge.Statement.{statement}
 use Rattle.index_open.proofs.judge.Tie as tie
-
-limits-wrong-requires : tie.Need-limits-wrong-requires
-limits-wrong-requires c κs = search needs
-
-too-small-requires : tie.Need-too-small-requires
-too-small-requires c κs = search needs
-
-limits-refusal-requires : tie.Need-limits-refusal-requires
-limits-refusal-requires c κs = search needs
-
-refusal-of-requires : tie.Need-refusal-of-requires
-refusal-of-requires c κs = search needs
-
-first-refusal-requires : tie.Need-first-refusal-requires
-first-refusal-requires c κs = search needs
 
 returns : tie.Need-returns
 returns c =
@@ -32,10 +16,4 @@ returns c =
 pub judge-spec : {M : Type 1} → statement M
 judge-spec =
     tie.close
-    (tie.spec
-    limits-wrong-requires
-    too-small-requires
-    limits-refusal-requires
-    refusal-of-requires
-    first-refusal-requires
-    returns)
+    (tie.spec (λ c κs. search needs) (λ c κs. search needs) (λ c κs. search needs) (λ c κs. search needs) (λ c κs. search needs) returns)

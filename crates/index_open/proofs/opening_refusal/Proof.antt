@@ -1,4 +1,3 @@
--- Each test is its definition's. Assumes nothing.
 use mathlib.Core.Path.{_∙_}
 use mathlib.Core.Bool.{_||_}
 use mathlib.Core.List.{[], _∷_}
@@ -7,18 +6,6 @@ use Rattle.index_model.specs.Opening.{openingRefusal}
 use borrow.Author.Needs.{needs}
 use Rattle.index_open.proofs.opening_refusal.Statement.{statement}
 use Rattle.index_open.proofs.opening_refusal.Tie as tie
-
-limits-wrong-requires : tie.Need-limits-wrong-requires
-limits-wrong-requires c κs = search needs
-
-held-wrong-requires : tie.Need-held-wrong-requires
-held-wrong-requires c κs = search needs
-
-too-small-requires : tie.Need-too-small-requires
-too-small-requires c κs = search needs
-
-limits-refusal-requires : tie.Need-limits-refusal-requires
-limits-refusal-requires c κs = search needs
 
 returns : tie.Need-returns
 unfolding openingRefusal
@@ -29,11 +16,4 @@ returns c =
     ∙ (λ i. first (13 when (h .before .limits-wrong .ensures i || h .held-wrong .ensures i) ∷ 14 when s .too-small .ensures i ∷ []))
 
 pub opening-refusal-spec : {M : Type 1} → statement M
-opening-refusal-spec =
-    tie.close
-    (tie.spec
-    limits-wrong-requires
-    held-wrong-requires
-    too-small-requires
-    limits-refusal-requires
-    returns)
+opening-refusal-spec = tie.close (tie.spec (λ c κs. search needs) (λ c κs. search needs) (λ c κs. search needs) (λ c κs. search needs) returns)
