@@ -6,20 +6,21 @@ use mathlib.Core.List.{List}
 use mathlib.Core.Option.{some}
 use mathlib.Core.Logic.{⊎-elim}
 use native.Mathlib.Omega.{arith}
-use lib.ListN.{getD, length, List·getD-eq-default}
+use lib.ListN.{getD, length, length-take, length-drop, List·getD-eq-default}
 use Rattle.lists.proofs.Fill.{length-tab}
 use Rattle.lists.proofs.Order.{le-or-lt}
-use Rattle.channels.specs.Sample.{sampleOf}
+use Rattle.channels.specs.Sample.{sampleOf, samplesOf}
 use Rattle.header.specs.Header.{headerOf}
 use Rattle.sample_rates.specs.Rates.{sampleRateOf, samplesPerRecord}
 use Rattle.record.specs.Record.{recordRefusal}
-use Rattle.record.proofs.Accepted.{record-facts}
+use Rattle.record.proofs.Accepted.{record-facts, stretch-inside}
+use Rattle.totals.specs.Total.{totalOf}
 use Rattle.totals.proofs.Samples.{Bytes, samples-bytes}
 use Rattle.totals.proofs.Sums.{squares-bound}
 use Rattle.index_model.specs.declared.Opening.{Opening}
-use Rattle.index_model.specs.Records.{mostSamples, secondOf, hasOrigin, hasError, channelSamples}
+use Rattle.index_model.specs.Records.{mostSamples, secondOf, hasOrigin, hasError, samplesHeld, channelSamples}
 use Rattle.record.specs.Stretch.{recordRate, sampleCount, stretchOf}
-use Rattle.index_model.specs.Cells.{width, channelCell, flag, rowOf}
+use Rattle.index_model.specs.Cells.{width, channelCell, channelCells, flag, rowOf}
 use Rattle.index_model.specs.Opening.{inWindow}
 use Rattle.index_model.specs.Ledger.{Ledger}
 use Rattle.index_model.proofs.Rows.{row-length, row-records, row-origin, row-error, row-second, row-channel}
@@ -69,10 +70,17 @@ module _ (b : List ℕ) (accepted : recordRefusal b ≡ 0) where
   unfolding recordRate
   count-most = record-facts b accepted .line .most
 
+  -- its bytes hold them all
+  held-all : samplesHeld b ≡ sampleCount b
+  unfolding stretchOf recordRate
+  held-all = simp (length-take, length-drop) (omega (arith, stretch-inside b accepted))
+
   -- the four cells of a channel (1 to 4)
   pub row-codes : (c i : ℕ) → 1 ≤ c → c ≤ 4 → i < 4 → getD (rowOf b) (channelCell c i) 0 ≡ getD (codes (channelSamples c b)) i 0
+  unfolding channelSamples
   row-codes c i p q r =
       row-channel b c i p q r
+      ∙ (λ t. getD (channelCells (held-all t) (totalOf (samplesOf (stretchOf b) c (held-all t)))) i 0)
       ∙ ap (λ (l : List ℕ). getD l i 0) (cells-codes (channelSamples c b) (samples-signed b c) (sampleCount b) (samples-length b c) count-some)
 
   codes-small : (c i : ℕ) → i < 4 → getD (codes (channelSamples c b)) i 0 ≤ rowLimit

@@ -15,8 +15,8 @@ use lib.ListN.{getD, take, drop}
 use Rattle.lists.specs.Fill.{tab}
 use Rattle.totals.specs.declared.Total.{Total}
 use Rattle.totals.specs.Total.{totalsOf}
-use Rattle.index_model.specs.Records.{secondOf, hasOrigin, hasError}
-use Rattle.record.specs.Stretch.{sampleCount, stretchOf}
+use Rattle.index_model.specs.Records.{secondOf, hasOrigin, hasError, samplesHeld}
+use Rattle.record.specs.Stretch.{stretchOf}
 
 -- cells in a row, and in a second
 abbrev pub width : ℕ
@@ -70,7 +70,7 @@ flag b = cond b 1 0
 unfoldable pub rowOf : List ℕ → List ℕ
 rowOf b =
     1 ∷ flag (hasOrigin b) ∷ flag (hasError b) ∷ secondOf b
-    ∷ allChannelCells (sampleCount b) (totalsOf (stretchOf b) (sampleCount b))
+    ∷ allChannelCells (samplesHeld b) (totalsOf (stretchOf b) (samplesHeld b))
 
 -- the row of a number that is not held
 abbrev pub noRow : List ℕ

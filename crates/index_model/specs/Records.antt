@@ -5,6 +5,7 @@ use mathlib.Core.Bool.{Bool}
 use mathlib.Core.List.{List}
 use lib.Dec.{eqb}
 use lib.IntN.{ℤ}
+use lib.ListN.{length}
 use Rattle.channels.specs.Sample.{samplesOf}
 use Rattle.header.specs.Header.{headerOf}
 use Rattle.record.specs.Stretch.{sampleCount, stretchOf}
@@ -29,6 +30,10 @@ hasError b = eqb (headerOf b .«copy_error») 1
 -- the most samples that a record has of a channel
 abbrev pub mostSamples : ℕ
 mostSamples = 1000
+
+-- the samples of each channel that any bytes hold; those of an accepted record are as many as its rate says
+abbrev pub samplesHeld : List ℕ → ℕ
+samplesHeld b = length (stretchOf b) / 4
 
 -- its samples of a channel (1 to 4)
 unfoldable pub channelSamples : ℕ → List ℕ → List ℤ
