@@ -1,6 +1,6 @@
 #!/usr/bin/env python3
-"""Several runs of the benchmarks as rows of the tables of docs/BENCHMARKS.md: of each number the median of the runs, and of a ratio,
-or of the time for a part of the work, the least and the greatest too.
+"""Several runs of the benchmarks as rows of the tables of docs/BENCHMARKS.md: of each number the median of the runs, and of a
+ratio, or of the time for a part of the work, the least and the greatest too.
 
     bench/summary.py OUTPUT...
 """
@@ -9,7 +9,8 @@ import statistics
 import sys
 
 NUMBER = r"([\d.]+)"
-PAIR = re.compile(rf"^(\S.{{57}}) +{NUMBER} +{NUMBER} +{NUMBER}  {NUMBER} to {NUMBER} *(?:goal {NUMBER} \w+)?(?:, limit {NUMBER} \w+)?$")
+GOAL = rf"(?:goal {NUMBER} \w+)?(?:, limit {NUMBER} \w+)?"
+PAIR = re.compile(rf"^(\S.{{57}}) +{NUMBER} +{NUMBER} +{NUMBER}  {NUMBER} to {NUMBER} *{GOAL}$")
 LONE = re.compile(rf"^(\S.{{57}}) +{NUMBER}   middle half {NUMBER} to {NUMBER}; {NUMBER} a (.*)$")
 
 

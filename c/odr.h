@@ -1,11 +1,12 @@
-/* The library for C: target/staticlib/libodr.a, made by `rt staticlib odr`. The functions are those of crates/odr, each proved to
- * answer as its promise there says, for every input.
+/* The library for C and C++: target/staticlib/libodr.a, made by `rt staticlib odr`. The functions are those of crates/odr, each
+ * proved to answer as its promise there says, for every input. docs/FORMAT.md defines the record, the refusals and the index of
+ * seconds.
  *
  * A buffer is a pointer and its number of elements. Pointers are never null, buffers that a call writes to overlap no other
  * argument, and nobody else uses them during the call; nothing else is asked of a caller. Any number of elements is taken.
  *
- * Numbers come back in structs, by value, so that no buffer for them can be too short. `refusal` is the refusal number of the scope
- * document, 01, and 0 is none; beside a refusal every other member is 0, and a refused call writes nothing at all to what it was lent.
+ * Numbers come back in structs, by value, so that no buffer for them can be too short. `refusal` is a refusal number, 0 for none;
+ * beside a refusal every other member is 0, and a refused call writes nothing at all to what it was lent.
  */
 #ifndef ODR_H
 #define ODR_H
@@ -14,21 +15,105 @@
 #include <stddef.h>
 #include <stdint.h>
 
+#ifdef __cplusplus
+extern "C" {
+#endif
+
+/* The refusal numbers of docs/FORMAT.md, "Refusal numbers". Where several apply, the first in the order of the call is given. */
+enum odr_refusal_number {
+    ODR_NONE = 0,                   /* no refusal */
+    ODR_TOO_SHORT = 1,              /* fewer than 80 bytes; on a reel also a word 3 below 40 */
+    ODR_WRONG_LENGTH = 2,           /* the bytes are not twice word 3; on a reel: fewer are left than that */
+    ODR_NOT_8_BITS = 3,             /* conversion bit 1 */
+    ODR_COMPRESSED = 4,             /* compression is not 0001 */
+    ODR_NO_SUCH_RATE = 5,           /* none of the seven sample rates */
+    ODR_NOT_THE_RATES_LENGTH = 6,   /* the record's length is neither of its rate's two */
+    ODR_NUMBER_ZERO = 7,            /* tape or record number 0 */
+    ODR_NO_SUCH_DATE = 8,           /* year above 99, day 0 or above 366 */
+    ODR_PAST_THE_DAY = 9,           /* record or readback time tag above 86,399,999 ms */
+    ODR_NO_DIGIT = 10,              /* a decimal digit above 9 */
+    ODR_WRONG_SYNC = 11,            /* clock origin 1 and a sync word other than A55A hex */
+    ODR_NO_SUCH_SAMPLE = 12,        /* a channel's buffer is too short for the record's samples, or there is no such sample */
+    ODR_WRONG_LIMITS = 13,          /* of an index */
+    ODR_TOO_FEW_CELLS = 14,         /* of an index */
+    ODR_OTHER_REEL = 15,            /* the record is of another reel than the index */
+    ODR_NUMBER_OUTSIDE = 16,        /* the record number is not one of 1 to the index's highest */
+    ODR_SECOND_OUTSIDE = 17,        /* the second is not one of the index's window */
+    ODR_SECOND_FULL = 18,           /* the second holds as many other records as a second has */
+    ODR_NOT_HELD = 19,              /* no record of that number is held */
+    ODR_NO_SUCH_SEGMENT = 20,       /* the segments are 7, 5, 2, 6, 10, 4 and 8 */
+    ODR_TEXT_TOO_LONG = 21,         /* the buffer is too short for the text */
+    ODR_VALUE_TOO_WIDE = 22,        /* a value to be written has more bits than its field */
+    ODR_SEGMENT_NOT_NEW = 23,       /* in neither record */
+    ODR_INPUT_TOO_LONG = 24         /* only as a line of a listing: the input is longer than ODR_LONGEST_INPUT */
+};
+
 enum {
-    ODR_HEADER_VALUES = 46,      /* the fields of a header, in the order of crates/header/specs/Format.antt */
-    ODR_LONGEST_SEGMENT = 90,    /* bytes of the longest monitor segment */
+    ODR_LONGEST_RECORD = 4390,   /* bytes of the longest accepted record: 2,195 words */
+    ODR_LONGEST_SEGMENT = 90,    /* bytes of the longest monitor segment: 45 words */
     ODR_CELLS = 20,              /* cells of a row, and of a second */
     ODR_LONGEST_INPUT = 65536,   /* a longer one gets the line refused,24 */
     ODR_LONGEST_LISTING = 4335,  /* a buffer of this size holds the listing of any input */
-    ODR_FINISHED = 255           /* what odr_step answers at the end of a reel: no refusal of 01 has this number */
+    ODR_FINISHED = 255           /* what odr_step answers at the end of a reel: no refusal has this number */
 };
 
-/* ---- Records. A record is any bytes; each call but the first gives 1 to 11 where they are not accepted. */
+/* ---- Records. A record is any bytes; each call on one gives 1 to 11 where they are not accepted. */
 
 /* 1 to 11, or 0 where the bytes are an accepted record. */
-uint8_t odr_accept(const uint8_t *record, size_t record_len);
+uint8_t odr_refusal(const uint8_t *record, size_t record_len);
 
-/* The values of a header's fields. */
+/* The fields of a header: the place of each among its values. docs/FORMAT.md, "The record", has each field's bits and unit. */
+enum odr_field {
+    ODR_CLOCK_ORIGIN = 0,            /* 1: the time is the station clock's */
+    ODR_SESSION_START = 1,
+    ODR_COPY_ERROR = 2,
+    ODR_CONVERSION = 3,              /* 0: samples of 8 bits */
+    ODR_COMPRESSION = 4,             /* 1: none */
+    ODR_TAPE_NUMBER = 5,
+    ODR_RECORD_NUMBER = 6,
+    ODR_LENGTH_WORDS = 7,            /* of the whole record, in words of two bytes */
+    ODR_PRIME_FEA = 8,
+    ODR_SECONDARY_FEA = 9,
+    ODR_SPACECRAFT = 10,
+    ODR_SPC = 11,
+    ODR_YEAR = 12,                   /* of the century */
+    ODR_DAY = 13,                    /* of the year, from 1 */
+    ODR_TIME_TAG_MS = 14,            /* milliseconds of the day, of the first sample */
+    ODR_PREDICT_0 = 15,              /* the predict set's ten bytes */
+    ODR_PREDICT_1 = 16,
+    ODR_PREDICT_2 = 17,
+    ODR_PREDICT_3 = 18,
+    ODR_PREDICT_4 = 19,
+    ODR_PREDICT_5 = 20,
+    ODR_PREDICT_6 = 21,
+    ODR_PREDICT_7 = 22,
+    ODR_PREDICT_8 = 23,
+    ODR_PREDICT_9 = 24,
+    ODR_STATUS = 25,
+    ODR_READBACK_UHZ = 26,           /* microhertz */
+    ODR_READBACK_TAG_MS = 27,
+    ODR_CALCULATED_UHZ = 28,         /* microhertz */
+    ODR_UPDATE_TAG_MS = 29,
+    ODR_FREQUENCY_RATE_DIGITS = 30,  /* odr_frequency_rate gives the rate of these three */
+    ODR_FREQUENCY_RATE_POWER = 31,
+    ODR_FREQUENCY_RATE_SIGN = 32,    /* 1 is plus */
+    ODR_PHASE_1 = 33,                /* counts of 1/256 cycle */
+    ODR_PHASE_2 = 34,
+    ODR_SELECTOR_1 = 35,
+    ODR_SELECTOR_2 = 36,
+    ODR_SELECTOR_3 = 37,
+    ODR_SELECTOR_4 = 38,
+    ODR_COUNTER_TAG_MS = 39,
+    ODR_FILTER = 40,
+    ODR_SAMPLE_RATE_HZ = 41,         /* samples a second in each channel */
+    ODR_SYNC_WORD = 42,
+    ODR_WORD_39 = 43,
+    ODR_REGISTER_1 = 44,
+    ODR_REGISTER_2 = 45,
+    ODR_HEADER_VALUES = 46           /* how many there are */
+};
+
+/* The values of a header: value[ODR_DAY] is the day. */
 typedef struct {
     uint64_t value[ODR_HEADER_VALUES];
 } odr_header;
@@ -36,25 +121,38 @@ typedef struct {
 /* The header of a record. 1 to 11, and then the header lent stays as it was. */
 uint8_t odr_read_header(const uint8_t *record, size_t record_len, odr_header *header);
 
-/* The values go into the header of the record, whose other bits stay. 1 to 11, 22. */
+/* The values go into the header of the record, whose other bits stay; of what the record held before only its length is judged.
+ * 1 to 11 of the values, 22. */
 uint8_t odr_write_header(uint8_t *record, size_t record_len, const odr_header *header);
 
 /* The frequency rate in units of 0.00001 Hz/s. 1 to 11. */
 typedef struct {
     uint8_t refusal;
     int64_t units;
-} odr_rate_answer;
-odr_rate_answer odr_frequency_rate(const uint8_t *record, size_t record_len);
+} odr_frequency_rate_answer;
+odr_frequency_rate_answer odr_frequency_rate(const uint8_t *record, size_t record_len);
 
-/* The samples of channels 1 to 4. 1 to 11, 12 where a buffer holds fewer than the record's samples. */
+/* What follows from a sample rate, one of 50,000, 20,000, 10,000, 5,000, 2,000, 1,000 and 200: the samples that each channel has
+ * in a record, so how long a channel's buffer must be; the records of a second; the microseconds from a sample to the next. 5. */
+typedef struct {
+    uint8_t refusal;
+    uint64_t samples;
+    uint64_t records;
+    uint64_t interval_us;
+} odr_sample_rate_answer;
+odr_sample_rate_answer odr_sample_rate(uint64_t hz);
+
+/* The samples of channels 1 to 4, to the start of each buffer; what stands behind them there stays. 1 to 11, 12 where a buffer
+ * holds fewer than the record's samples. */
 uint8_t odr_read_samples(const uint8_t *record, size_t record_len, int8_t *one, size_t one_len, int8_t *two, size_t two_len,
                          int8_t *three, size_t three_len, int8_t *four, size_t four_len);
 
-/* Samples of channels 1 to 4 into the record. 1 to 11, 12. */
-uint8_t odr_write_samples(uint8_t *record, size_t record_len, const int8_t *one, size_t one_len, const int8_t *two, size_t two_len,
-                          const int8_t *three, size_t three_len, const int8_t *four, size_t four_len);
+/* Samples of channels 1 to 4 into the record, whose other bytes stay. 1 to 11, 12 where a buffer has fewer than the record. */
+uint8_t odr_write_samples(uint8_t *record, size_t record_len, const int8_t *one, size_t one_len,
+                          const int8_t *two, size_t two_len, const int8_t *three, size_t three_len,
+                          const int8_t *four, size_t four_len);
 
-/* The time of sample k, counted from 0, in microseconds of the day. 1 to 11, 12. */
+/* The time of sample k, counted from 0, in microseconds of the day. 1 to 11, 12 where the record has no sample k. */
 typedef struct {
     uint8_t refusal;
     uint64_t microseconds;
@@ -82,7 +180,8 @@ typedef struct {
 } odr_totals_answer;
 odr_totals_answer odr_totals(const uint8_t *record, size_t record_len);
 
-/* A monitor segment: its bytes are the first `length` ones, and 0 follows. 1 to 11 of this record, then of the earlier one, 20, 23. */
+/* A monitor segment, from this record if it is new there, else from the earlier one: its bytes are the first `length` ones, and 0
+ * follows. 1 to 11 of this record, then of the earlier one, 20, 23. */
 typedef struct {
     uint8_t refusal;
     size_t length;
@@ -93,8 +192,8 @@ odr_segment_answer odr_segment(const uint8_t *this_record, size_t this_len, cons
 
 /* ---- Reels: records back to back. */
 
-/* What stands at a place: a record, from `start` up to `end`, which is also the next place; or ODR_FINISHED at the end of the reel and
- * past it; or 1 to 11. Where no record stands, `start` and `end` are 0. So this loop ends on every reel:
+/* What stands at a place: a record, from `start` up to `end`, which is also the next place; or ODR_FINISHED at the end of the
+ * reel and past it; or 1 to 11. Where no record stands, `start` and `end` are 0. So this loop ends on every reel:
  *
  *     odr_step_answer step;
  *     for (size_t place = 0; (step = odr_step(reel, reel_len, place)).answer == 0; place = step.end)
@@ -110,9 +209,9 @@ odr_step_answer odr_step(const uint8_t *reel, size_t reel_len, size_t place);
 /* ---- The index of seconds. What opening gave goes into every later call, by value, so that no call can change it. The cells are
  * the caller's: ODR_CELLS for each record number 1 to highest_number in `rows`, and for each second of the window in `seconds`.
  *
- * As long as nobody but these calls writes to the cells, and each call gets what odr_open returned: every call answers as if it had
- * kept the bytes of every record that was put and is still held, and worked each second out from nothing. That is proved for every
- * list of calls, refused ones included (crates/odr/proofs/Demand3.antt).
+ * As long as nobody but these calls writes to the cells, and each call gets what odr_open returned: every call answers as if it
+ * had kept the bytes of every record that was inserted and is still held, and worked each second out from nothing. That is proved
+ * for every list of calls, refused ones included (crates/odr/proofs/Demand3.antt).
  */
 typedef struct {
     uint64_t first_second;
@@ -130,18 +229,21 @@ typedef struct {
     odr_opening opening;
 } odr_open_answer;
 
-/* Opens an index: the cells of its rows and seconds become 0. 1 to 11 of the pattern, 13, 14. */
+/* Opens an index for the reel of the pattern, a record, which is not inserted: the window is `second_count` seconds of the day
+ * from `first_second` on, and record numbers go from 1 to `highest_number`. The cells of its rows and seconds become 0.
+ * 1 to 11 of the pattern, 13, 14. */
 odr_open_answer odr_open(const uint8_t *pattern, size_t pattern_len, uint64_t first_second, uint64_t second_count,
                          uint64_t highest_number, uint32_t *rows, size_t rows_len, uint32_t *seconds, size_t seconds_len);
 
-/* Puts a record under its number, in place of any there. 1 to 11, 13 to 18. */
-uint8_t odr_put(odr_opening opening, const uint8_t *record, size_t record_len, uint32_t *rows, size_t rows_len,
-                uint32_t *seconds, size_t seconds_len);
+/* Inserts a record under its number, in place of any there. 1 to 11, 13 to 18. */
+uint8_t odr_insert(odr_opening opening, const uint8_t *record, size_t record_len, uint32_t *rows, size_t rows_len,
+                   uint32_t *seconds, size_t seconds_len);
 
-/* Takes the record of a number out. 13, 14, 16, 19. */
-uint8_t odr_take_out(odr_opening opening, uint64_t number, uint32_t *rows, size_t rows_len, uint32_t *seconds, size_t seconds_len);
+/* Removes the record of a number. 13, 14, 16, 19. */
+uint8_t odr_remove(odr_opening opening, uint64_t number, uint32_t *rows, size_t rows_len, uint32_t *seconds, size_t seconds_len);
 
-/* A second's records, those with clock origin, those with copy error, the totals of each channel, and whether it is kept. 13, 14, 17. */
+/* A second of the day: its records, those with clock origin, those with copy error, the totals of each channel, and whether it is
+ * kept. A second of no records has 0 throughout. 13, 14, 17. */
 typedef struct {
     uint8_t refusal;
     uint32_t records;
@@ -150,10 +252,10 @@ typedef struct {
     odr_total channels[4];
     bool kept;
 } odr_second_answer;
-odr_second_answer odr_ask(odr_opening opening, uint64_t second, const uint32_t *rows, size_t rows_len, const uint32_t *seconds,
-                          size_t seconds_len);
+odr_second_answer odr_query(odr_opening opening, uint64_t second, const uint32_t *rows, size_t rows_len, const uint32_t *seconds,
+                            size_t seconds_len);
 
-/* Mean and mean square of channels 1 to 4 of a second. 13, 14, 17. */
+/* Mean and mean square of channels 1 to 4 of a second; both are 0 for no samples. 13, 14, 17. */
 typedef struct {
     double mean;
     double mean_square;
@@ -165,12 +267,14 @@ typedef struct {
 odr_means_answer odr_second_means(odr_opening opening, uint64_t second, const uint32_t *rows, size_t rows_len,
                                   const uint32_t *seconds, size_t seconds_len);
 
-/* Whether no held row is outside the window and the second cells are those that the rows give. 13, 14. */
+/* The consistency test: whether no held row is of a second outside the window and the second cells are those that the rows give.
+ * 13, 14. */
 typedef struct {
     uint8_t refusal;
     bool consistent;
-} odr_test_answer;
-odr_test_answer odr_test(odr_opening opening, const uint32_t *rows, size_t rows_len, const uint32_t *seconds, size_t seconds_len);
+} odr_consistency_answer;
+odr_consistency_answer odr_is_consistent(odr_opening opening, const uint32_t *rows, size_t rows_len, const uint32_t *seconds,
+                                         size_t seconds_len);
 
 /* ---- Text. It goes to the start of the buffer; bytes past it keep their contents. */
 
@@ -184,5 +288,9 @@ odr_text_answer odr_record_line(const uint8_t *record, size_t record_len, uint8_
 
 /* The whole listing of a reel; 24 and any other refusal of the reel is a line of it. 21. */
 odr_text_answer odr_list(const uint8_t *input, size_t input_len, uint8_t *text, size_t text_len);
+
+#ifdef __cplusplus
+}
+#endif
 
 #endif

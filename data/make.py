@@ -1,5 +1,5 @@
 #!/usr/bin/env python3
-"""Makes the bundled reels data/sample.odr and data/slow.odr, and beside each NAME.csv, the listing that 01 gives of it.
+"""Makes the bundled reels data/sample.odr and data/slow.odr, and beside each NAME.csv, its listing by docs/FORMAT.md.
 
     make.py            # writes the files
     make.py --check    # writes nothing; fails where a file is not what it would write
@@ -16,7 +16,7 @@ import sys
 HEADER_LINE = "record,first_us,origin,poca_hz,rate_hz_s\n"
 LONGEST_INPUT = 65_536
 
-# 01's rate table, for the rates used here: records a second, samples a channel, words of an OP-B record.
+# The table of rates, for the rates used here: records a second, samples a channel, words of an OP-B record.
 RATES = {10_000: (10, 1000, 2195), 200: (2, 100, 395)}
 MONITOR_WORDS, OFFSET_WORDS = 150, 5
 

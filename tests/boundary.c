@@ -1,6 +1,6 @@
-/* Calls every function of c/odr.h from C and prints its answers, for tests/boundary.sh. What tests/boundary.out has was worked out
- * by hand from 01, as the comments here say. The record is that of 01, "The lister": 780 bytes, 200 samples a second, 100 samples
- * a channel, N = 240, so its monitor words start at byte 480; year 86, day 24, noon. */
+/* Calls every function of c/odr.h from C and prints its answers, for tests/boundary.sh. What tests/boundary.out has was worked
+ * out by hand from docs/FORMAT.md, as the comments here say. The record is that of its "Cases worked by hand": 780 bytes, 200
+ * samples a second, 100 samples a channel, N = 240, so its monitor words start at byte 480; year 86, day 24, noon. */
 #include "odr.h"
 
 #include <inttypes.h>
@@ -10,16 +10,17 @@
 enum { LENGTH = 780, SAMPLES = 100, NUMBERS = 3, SECONDS = 2, NOON = 43200, MONITOR = 480 };
 
 _Static_assert(sizeof(odr_header) == 8 * ODR_HEADER_VALUES, "a header is its values");
+_Static_assert(ODR_LONGEST_RECORD == 2 * (40 + 2 * 1000 + 150 + 5), "header, samples, monitor words, operator offsets");
 _Static_assert(sizeof(odr_opening) == 9 * 8, "an opening is nine numbers");
 _Static_assert(sizeof((odr_segment_answer){0}.bytes) == ODR_LONGEST_SEGMENT, "a segment's bytes");
 _Static_assert(ODR_LONGEST_SEGMENT == 2 * (50 - 6 + 1), "segment 7 is the longest: monitor words 6 to 50");
 _Static_assert(sizeof((odr_totals_answer){0}.channels) == 4 * sizeof(odr_total), "four channels");
 _Static_assert(sizeof((odr_second_answer){0}.channels) == 4 * sizeof(odr_total), "four channels");
 _Static_assert(sizeof((odr_means_answer){0}.channels) == 4 * sizeof(odr_means), "four channels");
-_Static_assert(ODR_FINISHED > 24 && ODR_FINISHED <= UINT8_MAX, "finished is no refusal and fits an answer");
+_Static_assert(ODR_FINISHED > (int)ODR_INPUT_TOO_LONG && ODR_FINISHED <= UINT8_MAX, "finished is no refusal and fits an answer");
 
-/* The longest line: a number of 5 digits, microseconds of 11, an origin of 1, 8 digits of hertz with a point and 6 places, a minus
- * and 7 digits of hertz a second with a point and 5 places, four commas and a line feed. */
+/* The longest line: a number of 5 digits, microseconds of 11, an origin of 1, 8 digits of hertz with a point and 6 places, a
+ * minus and 7 digits of hertz a second with a point and 5 places, four commas and a line feed. */
 #define LONGEST_LINE "65535,86399999000,1,99999999.999999,-9999900.00000\n"
 enum { HEADER_LINE = 41, LINE = 5 + 11 + 1 + 15 + 14 + 4 + 1, RECORDS = ODR_LONGEST_INPUT / LENGTH };
 _Static_assert(sizeof LONGEST_LINE - 1 == LINE && LINE == 51 && RECORDS == 84, "the longest line, the most records");
@@ -45,11 +46,47 @@ static void print_channels(const odr_total *channels) {
     }
 }
 
-/* Phase counts 384 and 64 go into the header: 1.5 and 0.25 cycles. Clock origin 2 has no place in one bit, 22; a record tag of
- * 86,400,000 is 9 and not 22. The rate is 12,345 times 10, negative. */
+/* Every field that the record has 0 in gets a value by its name, but for session start, copy error and conversion. A tag of 27
+ * bits starts at bit 6 of its word, so 7ABCDEF is 07AB and CDEF, and 123456 behind the filter 9 is 9012 and 3456; 86,399,999 is
+ * 5265BFF hex. */
+static void set_fields(odr_header *header) {
+    static const struct {
+        enum odr_field field;
+        uint64_t value;
+    } given[] = {
+        {ODR_PRIME_FEA, 0x11},
+        {ODR_SECONDARY_FEA, 0x22},
+        {ODR_SPACECRAFT, 0x33},
+        {ODR_SPC, 0x44},
+        {ODR_STATUS, 0x5A},
+        {ODR_READBACK_TAG_MS, 86399999},
+        {ODR_CALCULATED_UHZ, 12345678901234},
+        {ODR_UPDATE_TAG_MS, 0x123456},
+        {ODR_PHASE_1, 384},
+        {ODR_PHASE_2, 64},
+        {ODR_SELECTOR_1, 1},
+        {ODR_SELECTOR_2, 2},
+        {ODR_SELECTOR_3, 3},
+        {ODR_SELECTOR_4, 4},
+        {ODR_COUNTER_TAG_MS, 0x7ABCDEF},
+        {ODR_FILTER, 9},
+        {ODR_WORD_39, 0x1985},
+        {ODR_REGISTER_1, 0x56},
+        {ODR_REGISTER_2, 0x78},
+    };
+    for (size_t i = 0; i < sizeof given / sizeof given[0]; i++) {
+        header->value[given[i].field] = given[i].value;
+    }
+    for (uint64_t i = 0; i < 10; i++) {
+        header->value[ODR_PREDICT_0 + i] = 0xA0 + i;
+    }
+}
+
+/* Phase counts 384 and 64 are 1.5 and 0.25 cycles. Clock origin 2 has no place in one bit, 22; a record tag of 86,400,000 is 9
+ * and not 22. The rate is 12,345 times 10, negative. */
 static void headers(void) {
     odr_header header;
-    printf("accept %u, of 79 bytes %u\n", odr_accept(record, LENGTH), odr_accept(record, 79));
+    printf("refusal %u, of 79 bytes %u\n", odr_refusal(record, LENGTH), odr_refusal(record, 79));
     printf("read_header %u\n ", odr_read_header(record, LENGTH, &header));
     for (int i = 0; i < ODR_HEADER_VALUES; i++) {
         printf(" %" PRIu64, header.value[i]);
@@ -57,23 +94,37 @@ static void headers(void) {
     odr_header kept = header;
     printf("\nread_header of 79 bytes %u", odr_read_header(record, 79, &kept));
     printf(", as it was: %s\n", memcmp(&kept, &header, sizeof kept) == 0 ? "yes" : "no");
-    header.value[34] = 384;
-    header.value[35] = 64;
+    set_fields(&header);
     printf("write_header %u", odr_write_header(record, LENGTH, &header));
-    header.value[0] = 2;
-    printf(", with clock origin 2 %u", odr_write_header(record, LENGTH, &header));
-    header.value[14] = 86400000;
+    for (int word = 1; word <= 40; word++) {
+        printf("%s%02X%02X", word % 20 == 1 ? "\n  " : " ", record[2 * word - 2], record[2 * word - 1]);
+    }
+    header.value[ODR_CLOCK_ORIGIN] = 2;
+    printf("\nwrite_header with clock origin 2 %u", odr_write_header(record, LENGTH, &header));
+    header.value[ODR_TIME_TAG_MS] = 86400000;
     printf(", and tag 86,400,000 %u\n", odr_write_header(record, LENGTH, &header));
     const size_t lengths[] = {LENGTH, 79};
     for (int i = 0; i < 2; i++) {
-        odr_rate_answer rate = odr_frequency_rate(record, lengths[i]);
+        odr_frequency_rate_answer rate = odr_frequency_rate(record, lengths[i]);
         odr_phases_answer phases = odr_phases(record, lengths[i]);
         printf("frequency_rate %u %" PRId64 ", phases %u %g %g\n", rate.refusal, rate.units, phases.refusal, phases.first,
                phases.second);
     }
 }
 
-/* Channel 1 is 3, -4 and 98 times 0: sum -1, squares 9 + 16; 2 is 1 throughout; 3 is -128: 100 * 16,384; 4 is 127: 100 * 16,129. */
+/* Five rates have 1,000 samples in a record, 1,000 has 500 and 200 has 100; the rate over that is the records of a second, a
+ * million over the rate the microseconds. The last two numbers are 200 more than 2^16 and 2^32. */
+static void rates(void) {
+    const uint64_t asked[] = {50000, 20000, 10000, 5000, 2000, 1000, 200, 0, 1, 100, 199, 201, 500, 100000, 65736, 4294967496};
+    for (size_t i = 0; i < sizeof asked / sizeof asked[0]; i++) {
+        odr_sample_rate_answer rate = odr_sample_rate(asked[i]);
+        printf("sample_rate %" PRIu64 ": %u, %" PRIu64 " samples, %" PRIu64 " records, %" PRIu64 " us\n", asked[i], rate.refusal,
+               rate.samples, rate.records, rate.interval_us);
+    }
+}
+
+/* Channel 1 is 3, -4 and 98 times 0: sum -1, squares 9 + 16; 2 is 1 throughout; 3 is -128: 100 * 16,384; 4 is 127: 100 *
+ * 16,129. */
 static void samples(void) {
     int8_t one[SAMPLES] = {3, -4}, two[SAMPLES], three[SAMPLES], four[SAMPLES], out[4][SAMPLES + 1];
     memset(two, 1, SAMPLES);
@@ -143,7 +194,7 @@ static void walk(const char *name, const uint8_t *reel, size_t reel_len) {
     for (size_t place = 0; (step = odr_step(reel, reel_len, place)).answer == 0; place = step.end) {
         odr_header header = {{0}};
         odr_read_header(reel + step.start, step.end - step.start, &header);
-        printf(" %zu to %zu is number %" PRIu64 ",", step.start, step.end, header.value[6]);
+        printf(" %zu to %zu is number %" PRIu64 ",", step.start, step.end, header.value[ODR_RECORD_NUMBER]);
     }
     printf(" then %u %zu %zu\n", step.answer, step.start, step.end);
 }
@@ -161,7 +212,8 @@ static void reels(void) {
     reel[LENGTH + 1] = 0;
     walk("with tape number 0", reel, 2 * LENGTH);
     walk("of nothing", reel, 0);
-    printf("step past the end %u, inside a record %u\n", odr_step(reel, LENGTH, SIZE_MAX).answer, odr_step(reel, LENGTH, 1).answer);
+    printf("step past the end %u, inside a record %u\n", odr_step(reel, LENGTH, SIZE_MAX).answer,
+           odr_step(reel, LENGTH, 1).answer);
 }
 
 /* One cell more than the index has in each buffer: no call may touch it. */
@@ -193,21 +245,21 @@ static void open(const char *name, size_t pattern_len, uint64_t second_count, si
     opening = answer.opening;
 }
 
-static uint8_t put(unsigned number) {
+static uint8_t insert(unsigned number) {
     set_word(record, 2, number);
-    uint8_t answer = odr_put(opening, record, LENGTH, rows, ROW_CELLS, seconds, SECOND_CELLS);
+    uint8_t answer = odr_insert(opening, record, LENGTH, rows, ROW_CELLS, seconds, SECOND_CELLS);
     set_word(record, 2, 1);
     return answer;
 }
 
-static uint8_t take_out(uint64_t number) {
-    return odr_take_out(opening, number, rows, ROW_CELLS, seconds, SECOND_CELLS);
+static uint8_t remove_number(uint64_t number) {
+    return odr_remove(opening, number, rows, ROW_CELLS, seconds, SECOND_CELLS);
 }
 
-static void ask(uint64_t second) {
-    odr_second_answer answer = odr_ask(opening, second, rows, ROW_CELLS, seconds, SECOND_CELLS);
-    printf("ask %" PRIu64 ": %u, %u records, %u origins, %u errors, %s\n", second, answer.refusal, answer.records, answer.origins,
-           answer.errors, answer.kept ? "kept" : "not kept");
+static void query(uint64_t second) {
+    odr_second_answer answer = odr_query(opening, second, rows, ROW_CELLS, seconds, SECOND_CELLS);
+    printf("query %" PRIu64 ": %u, %u records, %u origins, %u errors, %s\n", second, answer.refusal, answer.records,
+           answer.origins, answer.errors, answer.kept ? "kept" : "not kept");
     print_channels(answer.channels);
     odr_means_answer means = odr_second_means(opening, second, rows, ROW_CELLS, seconds, SECOND_CELLS);
     printf("second_means %u:", means.refusal);
@@ -218,8 +270,8 @@ static void ask(uint64_t second) {
 }
 
 static void test(void) {
-    odr_test_answer answer = odr_test(opening, rows, ROW_CELLS, seconds, SECOND_CELLS);
-    printf("test %u %s\n", answer.refusal, answer.consistent ? "yes" : "no");
+    odr_consistency_answer answer = odr_is_consistent(opening, rows, ROW_CELLS, seconds, SECOND_CELLS);
+    printf("is_consistent %u %s\n", answer.refusal, answer.consistent ? "yes" : "no");
 }
 
 /* 60 row cells and 40 second cells become 0, two stay. A second at 200 samples a second is full with two records, so the third is
@@ -232,30 +284,30 @@ static void fill(void) {
     open("of no seconds", LENGTH, 0, ROW_CELLS);
     open("of 59 row cells", LENGTH, SECONDS, 59);
     open("whole", LENGTH, SECONDS, ROW_CELLS);
-    printf("put");
+    printf("insert");
     for (unsigned number = 1; number <= 4; number++) {
-        printf(" %u: %u,", number, put(number));
+        printf(" %u: %u,", number, insert(number));
     }
-    printf(" 1 again: %u\n", put(1));
-    ask(NOON);
-    ask(NOON + 1);
-    ask(NOON + 2);
+    printf(" 1 again: %u\n", insert(1));
+    query(NOON);
+    query(NOON + 1);
+    query(NOON + 2);
 }
 
-/* Number 2 goes, and there is room for 3, a second later: 1000 ms is 3E8 hex, and 2E00 + 3E8 = 31E8. A copy error, bit 3 of word 1,
- * and no clock origin, bit 1, in the record that replaces it: 2101. */
+/* Number 2 goes, and there is room for 3, a second later: 1000 ms is 3E8 hex, and 2E00 + 3E8 = 31E8. A copy error, bit 3 of word
+ * 1, and no clock origin, bit 1, in the record that replaces it: 2101. */
 static void change(void) {
-    printf("take_out 2: %u", take_out(2));
-    printf(", again: %u", take_out(2));
-    printf(", 0: %u\n", take_out(0));
+    printf("remove 2: %u", remove_number(2));
+    printf(", again: %u", remove_number(2));
+    printf(", 0: %u\n", remove_number(0));
     set_word(record, 8, 0x31E8);
-    printf("put 3: %u", put(3));
+    printf("insert 3: %u", insert(3));
     set_word(record, 1, 0x2101);
-    printf(", again: %u\n", put(3));
+    printf(", again: %u\n", insert(3));
     set_word(record, 1, 0x8101);
     set_word(record, 8, 0x2E00);
-    ask(NOON);
-    ask(NOON + 1);
+    query(NOON);
+    query(NOON + 1);
     test();
     seconds[0]++;
     test();
@@ -265,8 +317,8 @@ static void change(void) {
 /* An opening that is 0 throughout, as a refused odr_open returns it, is 13 in every call. */
 static void forge(void) {
     memset(&opening, 0, sizeof opening);
-    printf("no opening: put %u, take_out %u\n", put(1), take_out(1));
-    ask(NOON);
+    printf("no opening: insert %u, remove %u\n", insert(1), remove_number(1));
+    query(NOON);
     test();
 }
 
@@ -287,8 +339,8 @@ static void texts(void) {
     print_text("list of 65,537 bytes", odr_list(too_long, sizeof too_long, text, sizeof text), text);
 }
 
-/* 84 records with the longest line, and the 16 bytes that 65,536 have left, which are 1: 41 + 84 * 51 + 10 = 4,335 bytes. A refusal of
- * two digits takes 80 bytes or more, so that 83 records at most stand before it. Number 65,535; tag 86,399,999,
+/* 84 records with the longest line, and the 16 bytes that 65,536 have left, which are 1: 41 + 84 * 51 + 10 = 4,335 bytes. A
+ * refusal of two digits takes 80 bytes or more, so that 83 records at most stand before it. Number 65,535; tag 86,399,999,
  * 5265BFF hex; fourteen nines; 99,999 times 10^7 units, bits 13 to 16 of word 27 being 111 and 0, minus. */
 static void longest(void) {
     static const unsigned words[][2] = {{2, 0xFFFF},  {7, 0x0526},  {8, 0x5BFF},  {14, 0x0099}, {15, 0x9999},
@@ -315,6 +367,7 @@ int main(void) {
                                         {16, 0x4200}, {26, 0x0012}, {27, 0x3452}, {37, 0x00C8}, {38, 0xA55A}};
     set_words(record, words, sizeof words / sizeof words[0]);
     headers();
+    rates();
     samples();
     times();
     segments();

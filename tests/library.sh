@@ -1,6 +1,6 @@
 #!/usr/bin/env bash
-# Makes the library for C and Rust, target/staticlib/libodr.a, where it is missing or older than a source. `rt staticlib` proves the
-# crate before it writes the archive.
+# Makes the library for C and Rust, target/staticlib/libodr.a, where it is missing or older than a source. `rt staticlib` proves
+# the crate before it writes the archive.
 set -euo pipefail
 cd "$(dirname "$0")/.."
 library=target/staticlib/libodr.a

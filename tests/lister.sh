@@ -1,7 +1,7 @@
 #!/usr/bin/env bash
-# Runs the lister, target/bin/lister, on its stored cases: tests/lister/NAME.in must give NAME.out, byte for byte. Each case is run
-# from its file and again through a pipe that gives it in two pieces, so that a read comes back short. Then a read that fails must
-# give no listing, and a message. It exits non-zero where anything differs; its last line says how many cases passed.
+# Runs the lister, target/bin/lister, on its stored cases: tests/lister/NAME.in must give NAME.out, byte for byte. Each case is
+# run from its file and again through a pipe that gives it in two pieces, so that a read comes back short. Then a read that fails
+# must give no listing, and a message. It exits non-zero where anything differs; its last line says how many cases passed.
 set -euo pipefail
 cd "$(dirname "$0")/.."
 lister=target/bin/lister

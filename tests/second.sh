@@ -1,6 +1,6 @@
 #!/usr/bin/env bash
-# The independent second program in second/, written from 01 alone: its own tests, and its listing of every stored case of the
-# lister, which must be the same byte for byte. It exits non-zero where anything differs.
+# The independent second program in second/, not written from the Rattle code: its own tests, and its listing of every stored case
+# of the lister, which must be the same byte for byte. It exits non-zero where anything differs.
 set -euo pipefail
 cd "$(dirname "$0")/.."
 cargo test --quiet --release --offline --manifest-path second/Cargo.toml

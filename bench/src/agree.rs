@@ -2,8 +2,8 @@
 
 use crate::plain::header::{self, read_header};
 use crate::plain::{samples, totals, write};
-use compare::odr::{self, HEADER_VALUES};
 use compare::records::any_bytes;
+use odr::HEADER_VALUES;
 use second::gen::Rng;
 
 const CASES: usize = 20_000;
@@ -37,7 +37,7 @@ fn same_header(rng: &mut Rng, record: &[u8]) {
     let mut values = [0; HEADER_VALUES];
     let refusal = odr::read_header(record, &mut values);
     let read = read_header(record);
-    assert_eq!([refusal, odr::accept(record)], [number(&read), number(&header::accept(record))]);
+    assert_eq!([refusal, odr::refusal(record)], [number(&read), number(&header::accept(record))]);
     let Ok(mut header) = read else { return };
     assert_eq!(values.to_vec(), header.numbers().into_iter().map(|value| *value).collect::<Vec<u64>>());
     let place = rng.next() as usize % HEADER_VALUES;
@@ -71,7 +71,7 @@ pub fn check(rng: &mut Rng) -> (usize, usize) {
     let mut accepted = 0;
     for _ in 0..CASES {
         let record = any_bytes(rng);
-        accepted += usize::from(odr::accept(&record) == 0);
+        accepted += usize::from(odr::refusal(&record) == 0);
         same_totals(&record);
         same_header(rng, &record);
         same_samples(rng, &record);

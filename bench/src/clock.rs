@@ -1,5 +1,5 @@
-//! Times of calls: medians over rounds in which the two that are compared take turns. The clock is that of the thread's own time on a
-//! processor: other programs on the machine then disturb less.
+//! Times of calls: medians over rounds in which the two that are compared take turns. The clock is that of the thread's own time
+//! on a processor: other programs on the machine then disturb less.
 
 use std::hint::black_box;
 use std::time::Duration;

@@ -1,9 +1,10 @@
-//! Calls on the index of seconds, and the listing: the library alone, at two sizes of the index. 01: "The book", "The lister".
+//! Calls on the index of seconds, and the listing: the library alone, at two sizes of the index. FORMAT: "The index of
+//! seconds", "The listing".
 
 use crate::clock::{alone, each, pair, time, ROUNDS, SHORTEST, SLOW_ROUNDS};
 use crate::records::Pool;
 use crate::table::{head, lone, row, Goal};
-use compare::odr::{self, CELLS, LONGEST_LISTING};
+use odr::{CELLS, LONGEST_LISTING};
 use second::gen::{self, set_tag, set_word, Rng};
 use second::record::RATES;
 use std::hint::black_box;
@@ -13,9 +14,9 @@ const FIRST_SECOND: u64 = 36_000;
 const SECONDS: u64 = 3_600;
 /// R of the two indexes.
 const SIZES: [u64; 2] = [60_000, 600];
-/// Records put, or taken out, in a batch.
+/// Records inserted, or removed, in a batch.
 const BATCH: usize = 600;
-const TAKEN: usize = 100;
+const REMOVED: usize = 100;
 const GROWTH: Goal = Goal { most: 1.5, limit: None };
 
 /// An index and its cells; C is `count`, R `highest`.
@@ -44,28 +45,28 @@ impl Index {
         self.held = 0;
     }
 
-    /// Puts a record under a number. The numbers' seconds are spread evenly over the window; this one's is later by so many.
-    fn put(&mut self, record: &mut [u8], number: u64, later: u64) {
+    /// Inserts a record under a number. The numbers' seconds are spread evenly over the window; this one's is later by so many.
+    fn insert(&mut self, record: &mut [u8], number: u64, later: u64) {
         let second = (self.count * (number - 1) / self.highest + later) % self.count;
         set_word(record, 2, number);
         set_tag(record, 7, 1000 * (FIRST_SECOND + second));
-        assert_eq!(odr::put(self.opening, black_box(record), &mut self.rows, &mut self.seconds), 0);
+        assert_eq!(odr::insert(self.opening, black_box(record), &mut self.rows, &mut self.seconds), 0);
     }
 
-    /// Puts the next numbers, none of them held, from a place of the pool on; `step` 0 puts one record again and again.
-    fn put_fresh(&mut self, pool: &mut Pool, from: usize, step: usize) -> f64 {
+    /// Inserts the next numbers, none of them held, from a place of the pool on; `step` 0 inserts one record again and again.
+    fn insert_fresh(&mut self, pool: &mut Pool, from: usize, step: usize) -> f64 {
         if self.held + BATCH as u64 > self.highest {
             self.open(pool.at(0));
         }
         let next = self.held + 1;
         self.held += BATCH as u64;
-        each(time(0, BATCH, |i| self.put(pool.at_mut((from + i) * step), next + i as u64, 0)), BATCH)
+        each(time(0, BATCH, |i| self.insert(pool.at_mut((from + i) * step), next + i as u64, 0)), BATCH)
     }
 
     fn fill(&mut self, pool: &mut Pool) {
         while self.held < self.highest {
             self.held += 1;
-            self.put(pool.at_mut(self.held as usize), self.held, 0);
+            self.insert(pool.at_mut(self.held as usize), self.held, 0);
         }
     }
 
@@ -76,38 +77,38 @@ impl Index {
 
     /// Replaces held numbers by records of a second later by so many than their place.
     fn replace(&mut self, pool: &mut Pool, later: u64) -> f64 {
-        each(time(0, TAKEN, |i| self.put(pool.at_mut(i), self.some(i), later)), TAKEN)
+        each(time(0, REMOVED, |i| self.insert(pool.at_mut(i), self.some(i), later)), REMOVED)
     }
 
-    /// Takes numbers out, and puts them back outside the measured time.
-    fn take_out(&mut self, pool: &mut Pool) -> f64 {
+    /// Removes numbers, and inserts them again outside the measured time.
+    fn remove(&mut self, pool: &mut Pool) -> f64 {
         let mut spent = Duration::ZERO;
         let mut calls = 0;
         while spent < SHORTEST {
-            spent += time(0, TAKEN, |i| {
+            spent += time(0, REMOVED, |i| {
                 let number = self.some(i);
-                assert_eq!(odr::take_out(self.opening, number, &mut self.rows, &mut self.seconds), 0);
+                assert_eq!(odr::remove(self.opening, number, &mut self.rows, &mut self.seconds), 0);
             });
-            calls += TAKEN;
-            (0..TAKEN).for_each(|i| self.put(pool.at_mut(i), self.some(i), 0));
+            calls += REMOVED;
+            (0..REMOVED).for_each(|i| self.insert(pool.at_mut(i), self.some(i), 0));
         }
         each(spent, calls)
     }
 
-    /// Asks about seconds, one after the other or with `step` 0 the same one.
-    fn ask(&self, step: u64) -> f64 {
-        let asked = |i: usize| {
+    /// Queries seconds, one after the other or with `step` 0 the same one.
+    fn query(&self, step: u64) -> f64 {
+        let queried = |i: usize| {
             let second = FIRST_SECOND + i as u64 * step % self.count;
-            let answer = odr::ask(self.opening, second, &self.rows, &self.seconds);
+            let answer = odr::query(self.opening, second, &self.rows, &self.seconds);
             assert_eq!(answer.refusal, 0);
             answer
         };
         let calls = 4 * SECONDS as usize;
-        each(time(0, calls, asked), calls)
+        each(time(0, calls, queried), calls)
     }
 
-    fn test(&self) {
-        assert!(odr::test(self.opening, &self.rows, &self.seconds).consistent);
+    fn test_consistency(&self) {
+        assert!(odr::is_consistent(self.opening, &self.rows, &self.seconds).consistent);
     }
 }
 
@@ -129,27 +130,28 @@ fn measure_index(pool: &mut Pool) {
         let mut from = 0;
         let fresh = |index: &mut Index, _| {
             from += BATCH;
-            index.put_fresh(pool, from, step)
+            index.insert_fresh(pool, from, step)
         };
-        grown(&format!("fresh put, {kind} records"), indexes, Some(GROWTH), fresh);
+        grown(&format!("fresh insert, {kind} records"), indexes, Some(GROWTH), fresh);
     }
     indexes.iter_mut().for_each(|index| index.fill(pool));
     grown("replacement in place, every number held", indexes, None, |index, _| index.replace(pool, 0));
     grown("replacement in another second, every number held", indexes, None, |index, n| index.replace(pool, n as u64 % 2));
     // Back to their places.
     indexes.iter_mut().for_each(|index| _ = index.replace(pool, 0));
-    grown("take out, every number held", indexes, None, |index, _| index.take_out(pool));
-    grown("ask, one second again and again", indexes, None, |index, _| index.ask(0));
-    grown("ask, each second in turn", indexes, None, |index, _| index.ask(1));
+    grown("remove, every number held", indexes, None, |index, _| index.remove(pool));
+    grown("query, one second again and again", indexes, None, |index, _| index.query(0));
+    grown("query, each second in turn", indexes, None, |index, _| index.query(1));
 }
 
 fn measure_test(pool: &mut Pool) {
-    println!("\n{:<58} {:>14}", "Index test, every number held", "library, ns");
+    println!("\n{:<58} {:>14}", "Consistency test, every number held", "library, ns");
     for (highest, seconds) in [(60, 60), (600, 600), (600, 3_600), (6_000, 3_600), (60_000, 1_200)] {
         let mut index = Index::new(pool, seconds, highest);
         index.fill(pool);
         let rounds = if highest == 60_000 { SLOW_ROUNDS } else { ROUNDS };
-        lone(&format!("R = {highest}, {seconds} seconds"), alone(rounds, |_| index.test()), highest * seconds, "row and second");
+        let times = alone(rounds, |_| index.test_consistency());
+        lone(&format!("R = {highest}, {seconds} seconds"), times, highest * seconds, "row and second");
     }
 }
 

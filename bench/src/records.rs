@@ -4,7 +4,7 @@ use crate::agree::{parts, parts_mut, Channels};
 use crate::clock::versus;
 use crate::plain::{header, samples, totals, write};
 use crate::table::{head, row, Goal};
-use compare::odr::{self, HEADER_VALUES};
+use odr::HEADER_VALUES;
 use second::gen::{self, Rng};
 use second::record::RATES;
 use std::hint::black_box;
@@ -18,8 +18,8 @@ const HALF: usize = RECORDS / 2;
 const TOTALS: Goal = Goal { most: 1.0, limit: Some(1.5) };
 const HEADER: Goal = Goal { most: 1.5, limit: None };
 
-/// Records of one reel, OP-B at 50,000 samples a second, in one piece of memory. Their samples are random, and so are their fields but
-/// for those of the reel.
+/// Records of one reel, OP-B at 50,000 samples a second, in one piece of memory. Their samples are random, and so are their
+/// fields but for those of the reel.
 pub struct Pool(Vec<u8>);
 
 impl Pool {
@@ -65,7 +65,7 @@ fn measure_reading(pool: &Pool) {
     let mut values = [0; HEADER_VALUES];
     let library = |r: &[u8]| odr::read_header(r, &mut values);
     hot_and_distinct("acceptance and header, 46 numbers", Some(HEADER), pool, library, header::read_header);
-    hot_and_distinct("acceptance alone", Some(HEADER), pool, odr::accept, header::accept);
+    hot_and_distinct("acceptance alone", Some(HEADER), pool, odr::refusal, header::accept);
     let mut channels = [(); 2].map(|_| [(); 4].map(|_| vec![0; COUNT]));
     let [ours, theirs] = &mut channels;
     let library = |r: &[u8]| odr::read_samples(r, parts_mut(ours));

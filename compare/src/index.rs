@@ -1,10 +1,10 @@
-//! The index of seconds: openings and histories, each call compared with the second program's ledger. 01: "The book" and
-//! "The ledger".
+//! The index of seconds: openings and histories, each call compared with the second program's ledger. FORMAT: "The index of
+//! seconds" and "The ledger".
 
 use crate::lent::{around, Lent};
-use crate::odr::{self, Double, MeansAnswer, OpenAnswer, SecondAnswer, TestAnswer, CELLS};
 use crate::records::{any_bytes, total};
 use crate::run::{answer, Answer, Part, Run, Said};
+use odr::{ConsistencyAnswer, MeansAnswer, OpenAnswer, SecondAnswer, CELLS};
 use second::book::{self, Ledger, Opening, SecondTotals};
 use second::gen::{self, set_word, word, Rng};
 use second::record::{read_header, RATES};
@@ -51,7 +51,8 @@ fn open(run: &mut Run, pattern: Vec<u8>, limits: [u64; 3], lengths: [usize; 2]) 
     let [mut rows, mut seconds] = lengths.map(|length| Lent::random(&mut run.rng, length));
     let mut record = Lent::of(&pattern);
     let actual = odr::open(record.body(), limits, rows.body_mut(), seconds.body_mut());
-    let [no_rows, no_seconds] = opened.as_ref().map_or([0, 0], |o| [o.highest, o.count]).map(|blocks| vec![0; block(blocks).start]);
+    let blocks = opened.as_ref().map_or([0, 0], |o| [o.highest, o.count]);
+    let [no_rows, no_seconds] = blocks.map(|count| vec![0; block(count).start]);
     let parts = [("pattern", record.difference()), ("rows", rows.check(&no_rows)), ("seconds", seconds.check(&no_seconds))];
     run.compare("odr_open", actual, expected, &parts);
     let opened = opened.ok()?;
@@ -71,7 +72,7 @@ pub fn open_any(run: &mut Run) {
     open(run, pattern, [first, count, highest], lengths);
 }
 
-/// A history: an opening whose seconds get full soon, a list of calls, and at the end a question about every second.
+/// A history: an opening whose seconds get full soon, a list of calls, and at the end a query of every second.
 pub fn history(run: &mut Run) {
     let rng = &mut run.rng;
     let rate = if rng.one_in(16) { rng.pick(&RATES) } else { RATES[rng.pick(&[6, 6, 6, 6, 5, 4, 3])] };
@@ -93,7 +94,7 @@ pub fn history(run: &mut Run) {
         for _ in 0..40 + 2 * full {
             history.step(run);
         }
-        history.ask_all(run);
+        history.query_all(run);
     }
 }
 
@@ -133,9 +134,9 @@ impl History {
             6..=7 => {
                 let mut damaged = self.clone();
                 let consistent = damaged.damage(&mut run.rng);
-                damaged.test(run, consistent);
+                damaged.test_consistency(run, consistent);
             }
-            8 if run.rng.one_in(4) => self.ask_all(run),
+            8 if run.rng.one_in(4) => self.query_all(run),
             _ => self.call(run),
         }
     }
@@ -144,19 +145,19 @@ impl History {
         match run.rng.next() % 16 {
             0..=7 => {
                 let record = self.record(&mut run.rng);
-                self.put(run, &record);
+                self.insert(run, &record);
             }
             8..=10 => {
                 let (held, any) = (self.number(&mut run.rng), run.rng.next());
                 let number = run.rng.pick(&[held, held, held, held, held, held, held, held, 0, 65_536, 65_536 + held, any]);
-                self.take_out(run, number);
+                self.remove(run, number);
             }
             11..=14 => {
                 let (near, any) = (self.second(&mut run.rng), run.rng.next());
                 let second = run.rng.pick(&[near, near, near, near, near, DAY, near + (1 << 32), any]);
-                if run.rng.one_in(3) { self.means(run, second) } else { self.ask(run, second) }
+                if run.rng.one_in(3) { self.means(run, second) } else { self.query(run, second) }
             }
-            _ => self.test(run, true),
+            _ => self.test_consistency(run, true),
         }
     }
 
@@ -179,7 +180,7 @@ impl History {
         if rng.one_in(12) { beside } else { rng.pick(&[early, early, any]) }
     }
 
-    /// A record to be put, most of them of the pattern's reel.
+    /// A record to be inserted, most of them of the pattern's reel.
     fn record(&self, rng: &mut Rng) -> Vec<u8> {
         let (number, tag) = (self.number(rng), 1000 * self.second(rng) + rng.within(0, 999));
         let (origin, error) = (rng.one_in(2), rng.one_in(6));
@@ -194,24 +195,24 @@ impl History {
         record
     }
 
-    /// Puts as many records into a second as it takes.
+    /// Inserts as many records into a second as it takes.
     fn fill(&mut self, run: &mut Run, full: u64) {
         let second = self.opened.first_second;
         for number in 1..=full.min(self.opened.highest) {
             let (tag, error) = (1000 * second + number, run.rng.one_in(100));
             let record = gen::flagged(&mut run.rng, &self.pattern, number, tag, number == 1, error);
-            self.put(run, &record);
+            self.insert(run, &record);
         }
     }
 
-    /// Asks about every second of the window, or in a large one about some.
-    fn ask_all(&mut self, run: &mut Run) {
+    /// Queries every second of the window, or in a large one some.
+    fn query_all(&mut self, run: &mut Run) {
         for k in 0..self.opened.count.min(8) {
             let second = if self.opened.count > 8 { self.second(&mut run.rng) } else { self.opened.first_second + k };
-            self.ask(run, second);
+            self.query(run, second);
             self.means(run, second);
         }
-        self.test(run, true);
+        self.test_consistency(run, true);
     }
 
     /// The second of the record held under a number.
@@ -225,8 +226,8 @@ impl History {
         [self.rows.body().len(), self.seconds.body().len()]
     }
 
-    /// What 01 says of an answer: it is the ledger's, but where it turns on cells and the opening given is not the one that opening
-    /// returned. Then it is accepted, or refused by the number that turns on cells, if the call has one.
+    /// What is said of an answer: it is the ledger's, but where it turns on cells and the opening given is not the one that
+    /// opening returned. Then it is accepted, or refused by the number that turns on cells, if the call has one.
     fn said<T, A: Answer>(&self, expected: &Result<T, u8>, given: impl Fn(&T) -> A, turning: u8) -> Said<A> {
         let expected = answer(expected, given);
         let open = self.given != self.opened && [0, turning].contains(&expected.number());
@@ -249,7 +250,7 @@ impl History {
         }
     }
 
-    fn put(&mut self, run: &mut Run, record: &[u8]) {
+    fn insert(&mut self, run: &mut Run, record: &[u8]) {
         let mut record = Lent::of(record);
         let header = read_header(record.body()).unwrap_or_default();
         let (number, joined) = (header.record_number, Some(header.time_tag_ms / 1000));
@@ -257,7 +258,7 @@ impl History {
         let [rows, seconds] = self.lengths();
         let expected = self.ledger.put(&self.given, record.body(), rows, seconds);
         let said = self.said(&expected, |_| 0, 18);
-        let actual = odr::put(passed(&self.given), record.body(), self.rows.body_mut(), self.seconds.body_mut());
+        let actual = odr::insert(passed(&self.given), record.body(), self.rows.body_mut(), self.seconds.body_mut());
         let mut kind = "";
         match said {
             Said::Open(_) => self.allow_if_accepted(actual),
@@ -268,15 +269,15 @@ impl History {
             }
             _ => {}
         }
-        self.compare(run, ("odr_put", kind), actual, said, &[("record", record.difference())]);
+        self.compare(run, ("odr_insert", kind), actual, said, &[("record", record.difference())]);
     }
 
-    fn take_out(&mut self, run: &mut Run, number: u64) {
+    fn remove(&mut self, run: &mut Run, number: u64) {
         let left = self.second_of(number);
         let [rows, seconds] = self.lengths();
         let expected = self.ledger.take_out(&self.given, number, rows, seconds);
         let said = self.said(&expected, |_| 0, 19);
-        let actual = odr::take_out(passed(&self.given), number, self.rows.body_mut(), self.seconds.body_mut());
+        let actual = odr::remove(passed(&self.given), number, self.rows.body_mut(), self.seconds.body_mut());
         match said {
             Said::Open(_) => self.allow_if_accepted(actual),
             Said::Is(0) => {
@@ -285,7 +286,7 @@ impl History {
             }
             _ => {}
         }
-        self.compare(run, ("odr_take_out", ""), actual, said, &[]);
+        self.compare(run, ("odr_remove", ""), actual, said, &[]);
     }
 
     /// The ledger's totals of a second.
@@ -294,7 +295,7 @@ impl History {
         self.ledger.ask(&self.given, second, rows, seconds)
     }
 
-    fn ask(&mut self, run: &mut Run, second: u64) {
+    fn query(&mut self, run: &mut Run, second: u64) {
         let expected = self.totals(second);
         let given = |t: &SecondTotals| SecondAnswer {
             refusal: 0,
@@ -310,14 +311,14 @@ impl History {
             Said::Is(SecondAnswer { kept: true, .. }) => "kept ",
             _ => "",
         };
-        let actual = odr::ask(passed(&self.given), second, self.rows.body(), self.seconds.body());
-        self.compare(run, ("odr_ask", kind), actual, said, &[]);
+        let actual = odr::query(passed(&self.given), second, self.rows.body(), self.seconds.body());
+        self.compare(run, ("odr_query", kind), actual, said, &[]);
     }
 
     fn means(&mut self, run: &mut Run, second: u64) {
         let [rows, seconds] = self.lengths();
         let expected = self.ledger.means(&self.given, second, rows, seconds);
-        let one = |m: Means| odr::Means { mean: Double(m.mean), mean_square: Double(m.mean_square) };
+        let one = |m: Means| odr::Means { mean: m.mean, mean_square: m.mean_square };
         let said = self.said(&expected, |means| MeansAnswer { refusal: 0, channels: means.map(one) }, 0);
         let empty = self.given == self.opened && self.totals(second).is_ok_and(|t| t.records == 0);
         let actual = odr::second_means(passed(&self.given), second, self.rows.body(), self.seconds.body());
@@ -334,21 +335,21 @@ impl History {
         among.then(|| held.all(|number| (number <= highest) == inside(number)))
     }
 
-    /// The test: 01 states it of any cells, so of a forged opening too.
-    fn test(&mut self, run: &mut Run, undamaged: bool) {
+    /// The consistency test: FORMAT states it of any cells, so of a forged opening too.
+    fn test_consistency(&mut self, run: &mut Run, undamaged: bool) {
         let [rows, seconds] = self.lengths();
         let refusal = self.ledger.book_test(&self.given, rows, seconds);
         let said = match (refusal, self.is_consistent()) {
-            (Err(number), _) => Said::Is(TestAnswer::refused(number)),
-            (_, Some(consistent)) => Said::Is(TestAnswer { refusal: 0, consistent: consistent && undamaged }),
+            (Err(number), _) => Said::Is(ConsistencyAnswer::refused(number)),
+            (_, Some(consistent)) => Said::Is(ConsistencyAnswer { refusal: 0, consistent: consistent && undamaged }),
             (_, None) => Said::Open(0),
         };
         let kind = match said {
-            Said::Is(TestAnswer { refusal: 0, consistent }) => if consistent { "yes " } else { "no " },
+            Said::Is(ConsistencyAnswer { refusal: 0, consistent }) => if consistent { "yes " } else { "no " },
             _ => "",
         };
-        let actual = odr::test(passed(&self.given), self.rows.body(), self.seconds.body());
-        self.compare(run, ("odr_test", kind), actual, said, &[]);
+        let actual = odr::is_consistent(passed(&self.given), self.rows.body(), self.seconds.body());
+        self.compare(run, ("odr_is_consistent", kind), actual, said, &[]);
     }
 
     /// Compares a call of some kind: its answer, every cell, and the parts of memory that only this call has.

@@ -1,5 +1,5 @@
-//! Memory lent to the library, with guard elements before and behind it, and the state expected of it after each call. 01, "What
-//! the promises have to say": for each input one answer and one state of lent memory.
+//! Memory lent to the library, with guard elements before and behind it, and the state expected of it after each call: for each
+//! input there is one answer and one state of lent memory.
 
 use second::gen::Rng;
 use std::fmt::Debug;

@@ -1,8 +1,10 @@
-//! Calls on records, reels and samples. 01: "The record", "Refusal numbers", "The reel", and of "The book" the totals.
+//! Calls on records, reels and samples. FORMAT: "The record" to "The reel", and of "The index of seconds" the totals.
 
 use crate::lent::{around, Lent};
-use crate::odr::{self, Double, PhasesAnswer, RateAnswer, SegmentAnswer, StepAnswer, TimeAnswer, TotalsAnswer, HEADER_VALUES};
 use crate::run::{answer, Answer, Run, Said};
+use odr::field::*;
+use odr::{FrequencyRateAnswer, PhasesAnswer, SampleRateAnswer, SegmentAnswer, StepAnswer, TimeAnswer, TotalsAnswer};
+use odr::HEADER_VALUES;
 use second::gen::{self, Rng};
 use second::monitor;
 use second::record::{self, Header};
@@ -42,17 +44,34 @@ fn read<T, A: Answer>(
     run.compare(call, actual, expected, &[("record", record.difference())]);
 }
 
-pub fn accept(run: &mut Run) {
-    read(run, "odr_accept", record::accept, |_| 0, odr::accept);
+pub fn refusal(run: &mut Run) {
+    read(run, "odr_refusal", record::accept, |_| 0, odr::refusal);
+}
+
+/// The rates, numbers beside them and beside those with the same low bits, and any number.
+pub fn sample_rate(run: &mut Run) {
+    let rng = &mut run.rng;
+    let (rate, any) = (rng.pick(&record::RATES).hz, rng.next());
+    let near = rng.pick(&[rate - 1, rate + 1, 2 * rate, rate + (1 << 16), rate + (1 << 32)]);
+    let hz = rng.pick(&[rate, rate, rate, near, near, any >> (any % 64), 0, u64::MAX]);
+    let line = record::sample_rate(hz);
+    let expected = answer(&line, |rate| SampleRateAnswer {
+        refusal: 0,
+        samples: rate.samples,
+        records: rate.records_a_second,
+        interval_us: rate.interval_us,
+    });
+    let outcome = if line.is_ok() { format!("{hz} 0") } else { expected.number().to_string() };
+    run.compare_as("odr_sample_rate", &outcome, odr::sample_rate(hz), Said::Is(expected), &[]);
 }
 
 pub fn frequency_rate(run: &mut Run) {
-    let given = |&units: &i64| RateAnswer { refusal: 0, units };
+    let given = |&units: &i64| FrequencyRateAnswer { refusal: 0, units };
     read(run, "odr_frequency_rate", record::frequency_rate, given, odr::frequency_rate);
 }
 
 pub fn phases(run: &mut Run) {
-    let given = |&(first, second): &(f64, f64)| PhasesAnswer { refusal: 0, first: Double(first), second: Double(second) };
+    let given = |&(first, second): &(f64, f64)| PhasesAnswer { refusal: 0, first, second };
     read(run, "odr_phases", samples::phases, given, odr::phases);
 }
 
@@ -84,40 +103,45 @@ pub fn read_header(run: &mut Run) {
     run.compare("odr_read_header", actual, number, &parts);
 }
 
-/// The header's values in the order of the library's 46.
-fn fields(h: &mut Header) -> Vec<&mut u64> {
+/// The second program's header by the library's names: each value at its place.
+fn fields(h: &mut Header) -> Vec<(usize, &mut u64)> {
     let mut all = vec![
-        &mut h.clock_origin, &mut h.session_start, &mut h.copy_error, &mut h.conversion, &mut h.compression,
-        &mut h.tape_number, &mut h.record_number, &mut h.length_words, &mut h.prime_fea, &mut h.secondary_fea,
-        &mut h.spacecraft, &mut h.spc, &mut h.year, &mut h.day, &mut h.time_tag_ms,
+        (CLOCK_ORIGIN, &mut h.clock_origin), (SESSION_START, &mut h.session_start), (COPY_ERROR, &mut h.copy_error),
+        (CONVERSION, &mut h.conversion), (COMPRESSION, &mut h.compression), (TAPE_NUMBER, &mut h.tape_number),
+        (RECORD_NUMBER, &mut h.record_number), (LENGTH_WORDS, &mut h.length_words), (PRIME_FEA, &mut h.prime_fea),
+        (SECONDARY_FEA, &mut h.secondary_fea), (SPACECRAFT, &mut h.spacecraft), (SPC, &mut h.spc), (YEAR, &mut h.year),
+        (DAY, &mut h.day), (TIME_TAG_MS, &mut h.time_tag_ms), (STATUS, &mut h.status), (READBACK_UHZ, &mut h.readback_uhz),
+        (READBACK_TAG_MS, &mut h.readback_tag_ms), (CALCULATED_UHZ, &mut h.calculated_uhz), (FILTER, &mut h.filter),
+        (UPDATE_TAG_MS, &mut h.update_tag_ms), (FREQUENCY_RATE_DIGITS, &mut h.rate_digits),
+        (FREQUENCY_RATE_POWER, &mut h.rate_power), (FREQUENCY_RATE_SIGN, &mut h.rate_sign), (PHASE_1, &mut h.phase_1),
+        (PHASE_2, &mut h.phase_2), (SELECTOR_1, &mut h.selector_1), (SELECTOR_2, &mut h.selector_2),
+        (SELECTOR_3, &mut h.selector_3), (SELECTOR_4, &mut h.selector_4), (COUNTER_TAG_MS, &mut h.counter_tag_ms),
+        (SAMPLE_RATE_HZ, &mut h.sample_rate_hz), (SYNC_WORD, &mut h.sync_word), (WORD_39, &mut h.word_39),
+        (REGISTER_1, &mut h.register_1), (REGISTER_2, &mut h.register_2),
     ];
-    all.extend(&mut h.predict);
-    all.extend([
-        &mut h.status, &mut h.readback_uhz, &mut h.readback_tag_ms, &mut h.calculated_uhz, &mut h.filter,
-        &mut h.update_tag_ms, &mut h.rate_digits, &mut h.rate_power, &mut h.rate_sign, &mut h.phase_1, &mut h.phase_2,
-        &mut h.selector_1, &mut h.selector_2, &mut h.selector_3, &mut h.selector_4, &mut h.counter_tag_ms,
-        &mut h.sample_rate_hz, &mut h.sync_word, &mut h.word_39, &mut h.register_1, &mut h.register_2,
-    ]);
+    all.extend(h.predict.iter_mut().enumerate().map(|(i, byte)| (PREDICT_0 + i, byte)));
     all
 }
 
 fn values(h: &mut Header) -> Vec<u64> {
-    fields(h).into_iter().map(|value| *value).collect()
+    let mut values = vec![0; HEADER_VALUES];
+    fields(h).into_iter().for_each(|(place, value)| values[place] = *value);
+    values
 }
 
-/// Places among the 46 values, and values there that 3 to 11 refuse when they are written; 11 where the clock origin is 1.
+/// Fields, and values of them that 3 to 11 refuse when they are written; 11 where the clock origin is 1.
 const REFUSED: [(&[usize], &[u64]); 11] = [
-    (&[3], &[1]),
-    (&[4], &[0, 2, 15, 16, 17]),
-    (&[41], &[0, 1, 199, 2001, 65_535, 65_736]),
-    (&[7], &[40, 389, 391, 395, 1190, 2189, 2196, 65_926]),
-    (&[5, 6], &[0]),
-    (&[12], &[100, 127, 128]),
-    (&[13], &[0, 367, 511, 513]),
-    (&[14, 27], &[86_400_000, 1 << 27, u64::MAX]),
-    (&[26, 28], &[100_000_000_000_000, 1 << 56, u64::MAX]),
-    (&[31], &[100_000, 1 << 20]),
-    (&[42], &[0, 0xA55B, 0x1_A55A]),
+    (&[CONVERSION], &[1]),
+    (&[COMPRESSION], &[0, 2, 15, 16, 17]),
+    (&[SAMPLE_RATE_HZ], &[0, 1, 199, 2001, 65_535, 65_736]),
+    (&[LENGTH_WORDS], &[40, 389, 391, 395, 1190, 2189, 2196, 65_926]),
+    (&[TAPE_NUMBER, RECORD_NUMBER], &[0]),
+    (&[YEAR], &[100, 127, 128]),
+    (&[DAY], &[0, 367, 511, 513]),
+    (&[TIME_TAG_MS, READBACK_TAG_MS], &[86_400_000, 1 << 27, u64::MAX]),
+    (&[READBACK_UHZ, CALCULATED_UHZ], &[100_000_000_000_000, 1 << 56, u64::MAX]),
+    (&[FREQUENCY_RATE_DIGITS], &[100_000, 1 << 20]),
+    (&[SYNC_WORD], &[0, 0xA55B, 0x1_A55A]),
 ];
 
 /// A number at an end of some width, or of any size.
@@ -147,7 +171,7 @@ fn header_values(rng: &mut Rng) -> Vec<u64> {
 pub fn write_header(run: &mut Run) {
     let values = header_values(&mut run.rng);
     let mut header = Header::default();
-    fields(&mut header).into_iter().zip(&values).for_each(|(field, &value)| *field = value);
+    fields(&mut header).into_iter().for_each(|(place, value)| *value = values[place]);
     let own = 2 * header.length_words.min(70_000) as usize;
     let length = if run.rng.one_in(8) { run.rng.pick(&[0, 79, 80, 81, 780, own / 2, own + 1, own + 2]) } else { own };
     let mut record = Lent::random(&mut run.rng, length);

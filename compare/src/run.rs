@@ -1,18 +1,18 @@
 //! A run of the differential tests: its cases, how often each outcome of each call was met, and the first difference, which ends
-//! it. 01, "Refusal numbers".
+//! it. FORMAT, "Refusal numbers".
 
-use crate::odr;
 use second::gen::Rng;
 use std::fmt::Debug;
 
 /// Each call with every outcome that must be met: the numbers that c/odr.h names, 0 for no refusal. Kinds of one number are told
 /// apart by words: `forged` is an opening that odr_open did not return, `short` a buffer of too few cells; of an answer that is
-/// `left open` 01 says no more than what `Said::Open` has.
-const CALLS: [(&str, &str); 19] = [
-    ("odr_accept", "0,1-11"),
+/// `left open` FORMAT says no more than what `Said::Open` has.
+const CALLS: [(&str, &str); 20] = [
+    ("odr_refusal", "0,1-11"),
     ("odr_read_header", "0,1-11"),
     ("odr_write_header", "0,1-11,22"),
     ("odr_frequency_rate", "0,1-11"),
+    ("odr_sample_rate", "50000 0,20000 0,10000 0,5000 0,2000 0,1000 0,200 0,5"),
     ("odr_read_samples", "0,1-11,12"),
     ("odr_write_samples", "0,1-11,12"),
     ("odr_sample_time", "0,1-11,12"),
@@ -21,11 +21,11 @@ const CALLS: [(&str, &str); 19] = [
     ("odr_segment", "this 0,earlier 0,this 1-11,earlier 1-11,20,23"),
     ("odr_step", "record 0,finished 255,1-11"),
     ("odr_open", "0,1-11,13-14"),
-    ("odr_put", "0,in place 0,moved 0,1-11,15-18,short 1-11,short 14,forged 1-11,forged 13-17,forged left open"),
-    ("odr_take_out", "0,16,19,short 14,forged 13-14,forged 16,forged left open"),
-    ("odr_ask", "0,empty 0,kept 0,17,short 14,forged 13-14,forged 17,forged left open"),
+    ("odr_insert", "0,in place 0,moved 0,1-11,15-18,short 1-11,short 14,forged 1-11,forged 13-17,forged left open"),
+    ("odr_remove", "0,16,19,short 14,forged 13-14,forged 16,forged left open"),
+    ("odr_query", "0,empty 0,kept 0,17,short 14,forged 13-14,forged 17,forged left open"),
     ("odr_second_means", "0,empty 0,17,short 14,forged 13-14,forged 17,forged left open"),
-    ("odr_test", "yes 0,no 0,short 14,forged yes 0,forged no 0,forged 13-14,forged left open"),
+    ("odr_is_consistent", "yes 0,no 0,short 14,forged yes 0,forged no 0,forged 13-14,forged left open"),
     ("odr_record_line", "0,1-11,21"),
     ("odr_list", "0,line 1-11,line 24,21"),
 ];
@@ -47,6 +47,11 @@ fn outcomes(list: &str) -> Vec<String> {
 pub trait Answer: Copy + Debug + PartialEq {
     fn refused(number: u8) -> Self;
     fn number(&self) -> u8;
+
+    /// Equal, and floats bit by bit, so that -0 is not 0.
+    fn same(self, other: Self) -> bool {
+        self == other
+    }
 }
 
 impl Answer for u8 {
@@ -59,8 +64,12 @@ impl Answer for u8 {
     }
 }
 
+fn bits(floats: [f64; 2]) -> [u64; 2] {
+    floats.map(f64::to_bits)
+}
+
 macro_rules! answers {
-    ($($name:ident $number:ident)*) => {$(
+    ($($name:ident $number:ident $({ $same:item })?)*) => {$(
         impl Answer for odr::$name {
             fn refused($number: u8) -> Self {
                 Self { $number, ..Default::default() }
@@ -69,12 +78,25 @@ macro_rules! answers {
             fn number(&self) -> u8 {
                 self.$number
             }
+
+            $($same)?
         }
     )*};
 }
 answers! {
-    RateAnswer refusal TimeAnswer refusal PhasesAnswer refusal TotalsAnswer refusal SegmentAnswer refusal StepAnswer answer
-    OpenAnswer refusal SecondAnswer refusal MeansAnswer refusal TestAnswer refusal TextAnswer refusal
+    FrequencyRateAnswer refusal SampleRateAnswer refusal TimeAnswer refusal TotalsAnswer refusal SegmentAnswer refusal
+    StepAnswer answer OpenAnswer refusal SecondAnswer refusal ConsistencyAnswer refusal TextAnswer refusal
+    PhasesAnswer refusal {
+        fn same(self, other: Self) -> bool {
+            self.refusal == other.refusal && bits([self.first, self.second]) == bits([other.first, other.second])
+        }
+    }
+    MeansAnswer refusal {
+        fn same(self, other: Self) -> bool {
+            let floats = |answer: Self| answer.channels.map(|means| bits([means.mean, means.mean_square]));
+            self.refusal == other.refusal && floats(self) == floats(other)
+        }
+    }
 }
 
 /// The answer that the library has to give where the second program gives this.
@@ -82,17 +104,17 @@ pub fn answer<T, A: Answer>(expected: &Result<T, u8>, given: impl FnOnce(&T) -> 
     expected.as_ref().map_or_else(|&number| A::refused(number), given)
 }
 
-/// What 01 says of an answer.
+/// What FORMAT says of an answer.
 pub enum Said<A> {
     Is(A),
-    /// It turns on cells of which 01 says nothing: accepted, or refused with this number, if it is not 0.
+    /// It turns on cells of which FORMAT says nothing: accepted, or refused with this number, if it is not 0.
     Open(u8),
 }
 
 impl<A: Answer> Said<A> {
     fn allows(&self, actual: A) -> bool {
         match *self {
-            Said::Is(expected) => actual == expected,
+            Said::Is(expected) => actual.same(expected),
             Said::Open(refusal) => [0, refusal].contains(&actual.number()),
         }
     }

@@ -1,9 +1,9 @@
-//! Calls that write text. 01: "The lister", refusals 21 and 24.
+//! Calls that write text. FORMAT: "The listing", refusals 21 and 24.
 
 use crate::lent::{around, Lent};
-use crate::odr::{self, TextAnswer, LONGEST_LISTING};
 use crate::records::{any_bytes, any_reel};
 use crate::run::{answer, Answer, Run, Said};
+use odr::{TextAnswer, LONGEST_LISTING};
 use second::gen::{self, Rng};
 use second::lister::{self, put_text, LONGEST_INPUT};
 use second::record::RATES;

@@ -1,4 +1,4 @@
-//! 01 "The book" and "The ledger": records held by number, every answer worked out from nothing.
+//! FORMAT, "The index of seconds" and "The ledger": records held by number, every answer worked out from nothing.
 
 use crate::record::{rate_of, read_header, Header};
 use crate::samples::{channels, means, total, Means, Total};

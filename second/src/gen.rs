@@ -1,4 +1,4 @@
-//! 01 whole: seeded inputs for comparing two programs, made without the writers under test.
+//! FORMAT whole: seeded inputs for comparing two programs, made without the writers under test.
 
 use crate::record::{Rate, LAST_MS, RATES};
 

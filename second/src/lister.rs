@@ -1,4 +1,4 @@
-//! 01 "The lister": the whole text for a reel, and refusal 21 for a text put into a lent buffer.
+//! FORMAT, "The listing": the whole text for a reel, and refusal 21 for a text put into a lent buffer.
 
 use crate::record::{frequency_rate, read_header};
 use crate::reel::{step, Step};

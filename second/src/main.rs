@@ -1,4 +1,4 @@
-//! 01 "The lister": a reel on standard input, its listing on standard output.
+//! FORMAT, "The listing": a reel on standard input, its listing on standard output.
 
 use second::lister::{listing, LONGEST_INPUT};
 use std::io::{stdin, stdout, Read, Result, Write};

@@ -1,4 +1,4 @@
-//! 01 "The record", monitor words, and "Refusal numbers", the segment question.
+//! FORMAT, "Monitor segments".
 
 use crate::record::record_rate;
 

@@ -1,6 +1,6 @@
-//! 01 "The record" and "Refusal numbers": the rate table, refusals 1 to 11, the header read and written.
+//! FORMAT: "The record", "Rates" and "Refusal numbers": the rate table, refusals 1 to 11, the header read and written.
 
-/// A row of 01's rate table; `n` is the last word of samples, lengths are in words.
+/// A row of the rate table; `n` is the last word of samples, lengths are in words.
 #[derive(Clone, Copy, Debug, PartialEq, Eq)]
 pub struct Rate {
     pub hz: u64,
@@ -27,6 +27,19 @@ pub const RATES: [Rate; 7] = [
 
 pub fn rate_of(hz: u64) -> Option<Rate> {
     RATES.into_iter().find(|rate| rate.hz == hz)
+}
+
+/// What follows from a rate: samples of a channel in a record, records of a second, microseconds from one sample to the next.
+#[derive(Clone, Copy, Debug, PartialEq, Eq)]
+pub struct SampleRate {
+    pub samples: u64,
+    pub records_a_second: u64,
+    pub interval_us: u64,
+}
+
+pub fn sample_rate(hz: u64) -> Result<SampleRate, u8> {
+    let Rate { records_a_second, samples, .. } = rate_of(hz).ok_or(5)?;
+    Ok(SampleRate { samples, records_a_second, interval_us: 1_000_000 / hz })
 }
 
 /// The last millisecond of the day.

@@ -1,4 +1,4 @@
-//! 01 "The reel": one step of the walk.
+//! FORMAT, "The reel": one step of the walk.
 
 use crate::record::accept;
 use std::ops::Range;

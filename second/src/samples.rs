@@ -1,4 +1,4 @@
-//! 01 "The record", samples, times and phases; "The book", the totals and means of samples.
+//! FORMAT: "Samples", "Times and phases"; of "The index of seconds" the totals and means of samples.
 
 use crate::record::{read_header, record_rate};
 

@@ -1,4 +1,4 @@
-//! 01 whole: what the seeded generator makes is what it says, and the answers hang together over it.
+//! FORMAT whole: what the seeded generator makes is what it says, and the answers hang together over it.
 
 use second::book::{open, Ledger, SecondTotals};
 use second::gen::*;

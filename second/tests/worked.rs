@@ -1,14 +1,14 @@
-//! 01 "Values worked by hand", "The lister" and "Refusal numbers": worked values and each number's boundary.
+//! FORMAT: "Cases worked by hand", "The listing" and "Refusal numbers": worked values and each number's boundary.
 
 use second::book::{open, Ledger, Opening, SecondTotals};
 use second::gen::{digit_places, set_digit, set_tag, set_word, word};
 use second::lister::{columns_line, line, listing, put_line, put_text, put_text_at, refused_line, HEADER_LINE};
 use second::monitor::{segment, SEGMENTS};
-use second::record::{accept, frequency_rate, read_header, write_header, Header, RATES};
+use second::record::{accept, frequency_rate, read_header, sample_rate, write_header, Header, RATES};
 use second::reel::{step, Step};
 use second::samples::{means, phases, read_samples, sample_time, total, totals, write_samples, Means, Total};
 
-/// The 780 bytes of 01's lister case.
+/// The 780 bytes of the listing's case.
 fn case() -> Vec<u8> {
     let mut r = vec![0; 780];
     for (w, value) in [
@@ -56,6 +56,21 @@ fn frequency_rates() {
     }
     let zero = read_header(&with(|r| r[50..54].copy_from_slice(&[0, 0, 0, 1]))).unwrap();
     assert_eq!((zero.rate_digits, zero.rate_power, zero.rate_sign), (0, 0, 1));
+}
+
+#[test]
+fn sample_rates() {
+    let lines = [
+        (50_000, 1000, 50, 20), (20_000, 1000, 20, 50), (10_000, 1000, 10, 100), (5_000, 1000, 5, 200), (2_000, 1000, 2, 500),
+        (1_000, 500, 2, 1000), (200, 100, 2, 5000),
+    ];
+    for (hz, samples, records, microseconds) in lines {
+        let line = sample_rate(hz).unwrap();
+        assert_eq!([line.samples, line.records_a_second, line.interval_us], [samples, records, microseconds]);
+    }
+    for hz in [0, 1, 100, 199, 201, 500, 100_000, 200 + (1 << 16), 200 + (1 << 32), u64::MAX] {
+        assert_eq!(sample_rate(hz), Err(5));
+    }
 }
 
 #[test]

@@ -1,11 +1,11 @@
 #!/usr/bin/env python3
-"""Makes the lister's stored cases from 01: tests/lister/NAME.in and NAME.out, crates/lister/stdin and stdout.
+"""Makes the lister's stored cases from docs/FORMAT.md: tests/lister/NAME.in and NAME.out, crates/lister/stdin and stdout.
 
     make.py            # writes the files
     make.py --check    # writes nothing; fails where a file is not what it would write
 
-It has its own encoder of records and its own formatting of lines, from 01 and not from the Rattle code, and the refusal of each
-case is written down here, from 01's table. It needs Python 3 alone.
+It has its own encoder of records and its own formatting of lines, from FORMAT and not from the Rattle code, and the refusal of
+each case is written down here, from its table. It needs Python 3 alone.
 """
 import pathlib
 import struct
@@ -14,7 +14,7 @@ import sys
 HEADER_LINE = "record,first_us,origin,poca_hz,rate_hz_s\n"
 SYNC = 0xA55A
 
-# 01's table: the word N up to which the samples go, of each rate; monitor words and the offsets of OP-B follow.
+# The table of rates: the word N up to which the samples go, of each rate; monitor words and the offsets of OP-B follow.
 LAST_SAMPLE_WORD = {50000: 2040, 20000: 2040, 10000: 2040, 5000: 2040, 2000: 2040, 1000: 1040, 200: 240}
 MONITOR_WORDS = 150
 OFFSET_WORDS = 5
@@ -85,7 +85,7 @@ def joined(records):
     return b"".join(r.bytes() for r in records)
 
 
-# 01's own case, word by word, and what 01 prints.
+# The case of FORMAT, "Cases worked by hand", word by word, and its listing.
 CASE_WORDS = {
     1: 0x8101, 2: 0x0001, 3: 0x0186, 6: 0xAC18, 7: 0x0293, 8: 0x2E00, 16: 0x4200, 26: 0x0012, 27: 0x3452, 37: 0x00C8, 38: 0xA55A,
 }
@@ -136,7 +136,8 @@ def full_reel():
     records, number = [], 1
     for rate, software, count in FULL_COUNTS:
         for _ in range(count):
-            records.append(Record(number, rate, software, origin=number % 2, tag_ms=500 * number, readback_uhz=10**6 * number + number))
+            values = {"origin": number % 2, "tag_ms": 500 * number, "readback_uhz": 10**6 * number + number}
+            records.append(Record(number, rate, software, **values))
             number += 1
     return records
 

@@ -1,4 +1,4 @@
-//! The header read, and acceptance. 01: "The record", refusals 1 to 11.
+//! The header read, and acceptance. FORMAT: "The record", refusals 1 to 11.
 
 /// The header's 46 numbers; as in the library each is of 64 bits, so that one can be too wide to be written.
 #[derive(Clone, Debug)]
@@ -187,11 +187,12 @@ impl Header {
         all.extend([&mut self.spacecraft, &mut self.spc, &mut self.year, &mut self.day, &mut self.time_tag_ms]);
         all.extend(&mut self.predict);
         all.extend([
-            &mut self.status, &mut self.readback_uhz, &mut self.readback_tag_ms, &mut self.calculated_uhz, &mut self.filter,
+            &mut self.status, &mut self.readback_uhz, &mut self.readback_tag_ms, &mut self.calculated_uhz,
             &mut self.update_tag_ms, &mut self.rate_digits, &mut self.rate_power, &mut self.rate_sign,
         ]);
         all.extend(self.phases.iter_mut().chain(&mut self.selectors));
-        all.extend([&mut self.counter_tag_ms, &mut self.sample_rate_hz, &mut self.sync_word, &mut self.word_39]);
+        all.extend([&mut self.counter_tag_ms, &mut self.filter, &mut self.sample_rate_hz, &mut self.sync_word]);
+        all.push(&mut self.word_39);
         all.extend(&mut self.registers);
         all
     }

@@ -1,4 +1,4 @@
-//! Samples out to four channels and back in. 01: "Samples go out to four lent channel buffers of signed bytes and come back in".
+//! Samples out to four channels and back in. FORMAT: "Samples".
 
 use super::header::{accept, HEADER};
 

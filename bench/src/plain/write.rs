@@ -1,4 +1,4 @@
-//! The header written. 01: "A header is written into a buffer of the record's length", refusals 1 to 11 and 22.
+//! The header written. FORMAT: "Refusal numbers", what a writer judges.
 
 use super::header::{judge, word, Header, HEADER};
 
@@ -11,8 +11,8 @@ fn fit(h: &Header) -> bool {
     let words = h.record_number | h.length_words | h.sample_rate_hz | h.sync_word | h.word_39;
     let tags = h.time_tag_ms | h.readback_tag_ms | h.update_tag_ms | h.counter_tag_ms;
     let phases = h.phases[0] | h.phases[1];
-    let widths = [(bits, 1), (h.rate_power, 3), (halves, 4), (h.year, 7), (bytes, 8), (h.day, 9), (words, 16), (tags, 27), (phases, 48)];
-    widths.iter().all(|&(value, width)| value >> width == 0)
+    let widths = [(bits, 1), (h.rate_power, 3), (halves, 4), (h.year, 7), (bytes, 8), (h.day, 9), (words, 16), (tags, 27)];
+    (phases >> 48 == 0) & widths.iter().all(|&(value, width)| value >> width == 0)
 }
 
 fn set_word(b: &mut [u8; HEADER], w: usize, value: u64) {

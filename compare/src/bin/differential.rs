@@ -11,17 +11,18 @@ const USAGE: &str = "\
 usage: tests/differential.sh [SEED] [CASES]
 
 Compares the library with the independent second program, on inputs generated from the seed (1985); a case is one compared call
-(1000000 of them). It prints how often each outcome of each call was met, and fails at the first difference. It also fails where an
-outcome was never met, but only at the default number of cases or more: with fewer, rare outcomes are missed by chance, so they are
-named and not judged.";
+(1000000 of them). It prints how often each outcome of each call was met, and fails at the first difference. It also fails where
+an outcome was never met, but only at the default number of cases or more: with fewer, rare outcomes are missed by chance, so they
+are named and not judged.";
 
 /// The calls outside histories.
-const CALLS: [fn(&mut Run); 16] = [
-    records::accept,
+const CALLS: [fn(&mut Run); 17] = [
+    records::refusal,
     records::read_header,
     records::write_header,
     records::write_header,
     records::frequency_rate,
+    records::sample_rate,
     records::read_samples,
     records::write_samples,
     records::sample_time,

@@ -1,4 +1,4 @@
--- The laws of binary coded decimalValue, over the number of digits: each direction undoes the other. Assumes nothing.
+-- The laws of binary coded decimal, over the number of digits: each direction undoes the other. Assumes nothing.
 use Prim.Native.Nat.{ℕ, zero, suc, _+_, _-_, _*_, _/_, _%_, _^_, _≤_, _<_}
 use mathlib.Core.Path.{_≡_, ap, sym, _∙_, subst}
 use mathlib.Core.Bool.{true, _&&_}

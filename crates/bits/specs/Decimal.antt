@@ -1,4 +1,4 @@
--- Binary coded decimalValue: decimalValue digits of four bits each, the most significant first (01's "BCD digits").
+-- Binary coded decimal: decimal digits of four bits each, the most significant first (01's "BCD digits").
 use Prim.Native.Nat.{ℕ, zero, suc, _+_, _*_, _/_, _%_}
 use mathlib.Core.Bool.{Bool, true, _&&_}
 use lib.Dec.{leb}
@@ -13,7 +13,7 @@ unfoldable pub digits : ℕ → ℕ → Bool
 digits zero c = true
 digits (suc n) c = digits n (c / 16) && leb (c % 16) 9
 
--- the code of the last n decimalValue digits of x
+-- the code of the last n decimal digits of x
 unfoldable pub coded : ℕ → ℕ → ℕ
 coded zero x = 0
 coded (suc n) x = coded n (x / 10) * 16 + x % 10

@@ -1,4 +1,4 @@
-// Bit fields of a run of bytes, read and written, and binary coded decimalValue. 01: "The record", words and bits.
+// Bit fields of a run of bytes, read and written, and binary coded decimal. 01: "The record", words and bits.
 // Bits past the last byte read as 0 and are not written, so no caller has to know the length first.
 ghost use mathlib.Core.Path.{_≡_};
 ghost use Prim.Native.Nat.{_+_, _-_, _*_, _/_, _%_, _^_, _≤_, _<_, min};
@@ -8,7 +8,7 @@ ghost use Rattle.bits.specs.Bits.{getBits, setBits, widest};
 ghost use Rattle.bits.specs.Decimal.{decimalValue, digits, coded, mostDigits};
 ghost use Rattle.bits.specs.Steps.{mix, Stored};
 
-// The most bits of a field, and the most decimalValue digits.
+// The most bits of a field, and the most decimal digits.
 const WIDEST: usize = 56;
 
 const MOST_DIGITS: usize = 14;
@@ -176,7 +176,7 @@ fn digits_good(count: usize, code: u64) -> bool
     good
 }
 
-// The code of the last `count` decimalValue digits of `value`.
+// The code of the last `count` decimal digits of `value`.
 fn digits_code(count: u64, value: u64) -> u64
     requires { ⌜ count ≤ 14 ⌝ }
     ensures { λ r. ⌜ r ≡ coded count value ⌝ }
@@ -201,7 +201,7 @@ pub fn decimal_digits(count: usize, code: u64) -> bool
     digits_good(lists::lesser(count, MOST_DIGITS), code)
 }
 
-// The code of the last `count` decimalValue digits of `value`; of more than 14, the last 14.
+// The code of the last `count` decimal digits of `value`; of more than 14, the last 14.
 pub fn decimal_code(count: usize, value: u64) -> u64
     ensures { λ r. ⌜ r ≡ coded (min count mostDigits) value ⌝ }
 {

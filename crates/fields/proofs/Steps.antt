@@ -1,4 +1,4 @@
--- What the code computes of a readable field, by whether it is decimalValue. Assumes nothing.
+-- What the code computes of a readable field, by whether it is decimal. Assumes nothing.
 use Prim.Native.Nat.{ℕ, _≤_, min}
 use mathlib.Core.Path.{_≡_, ap, sym, _∙_}
 use mathlib.Core.Bool.{Bool, true, false, cond, not, _||_}

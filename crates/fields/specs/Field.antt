@@ -23,7 +23,7 @@ infixl 20 word_
 abbrev pub word_ : ℕ → Field
 word m = word m bits 1 to 16
 
--- the same bits, as decimalValue digits of four bits each
+-- the same bits, as decimal digits of four bits each
 abbrev pub bcd : Field → Field
 bcd f = record { 0 = f .0; 1 = f .1; 2 = f .2; 3 = true }
 
@@ -38,7 +38,7 @@ start f = 16 * (f .0 - 1) + (f .1 - 1)
 abbrev pub width : Field → ℕ
 width f = f .2
 
--- whether it holds decimalValue digits, and how many
+-- whether it holds decimal digits, and how many
 abbrev pub isDecimal : Field → Bool
 isDecimal f = f .3
 
@@ -60,11 +60,11 @@ valueOf f b = decoded f (getBits (start f) (width f) b)
 unfoldable pub withValue : Field → ℕ → List ℕ → List ℕ
 withValue f v b = setBits (start f) (width f) (encoded f v) b
 
--- each digit of a decimalValue field is at most 9; a binary field has no digits to judge
+-- each digit of a decimal field is at most 9; a binary field has no digits to judge
 unfoldable pub digitsGood : Field → List ℕ → Bool
 digitsGood f b = not (isDecimal f) || digits (digitCount f) (getBits (start f) (width f) b)
 
--- a value has no more digits than a decimalValue field, or no more bits than a binary one
+-- a value has no more digits than a decimal field, or no more bits than a binary one
 abbrev pub decimalFits : Field → ℕ → Bool
 decimalFits f v = not (isDecimal f) || ltb v (10 ^ digitCount f)
 
@@ -79,7 +79,7 @@ pub record Readable (f : Field) : Type 0 where
   pub low : f .1 ≤ 16
   pub narrow : width f ≤ 56
 
--- the same as a test, and that a decimalValue field has whole digits
+-- the same as a test, and that a decimal field has whole digits
 abbrev pub readable : Field → Bool
 readable f =
     (leb 1 (f .0) && leb (f .0) 4000)

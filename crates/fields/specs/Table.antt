@@ -1,9 +1,10 @@
 -- A format as a table of fields: what it reads and writes, and the one test that makes a table sound.
-use Prim.Native.Nat.{ℕ, _+_, _≤_, _<_}
-use mathlib.Core.Bool.{Bool, true, false, _&&_, _||_}
+use Prim.Native.Nat.{ℕ, suc, _+_, _≤_, _<_}
+use mathlib.Core.Bool.{Bool, true, false, cond, _&&_, _||_}
 use mathlib.Core.List.{List, [], _∷_}
 use mathlib.Core.Logic.{_⊎_}
-use lib.Dec.{leb}
+use lib.Dec.{leb, eqb}
+use lib.ListN.{getD}
 use Rattle.fields.specs.declared.Field.{Field}
 use Rattle.fields.specs.Field.{start, width, valueOf, withValue, digitsGood, readable}
 
@@ -11,6 +12,15 @@ use Rattle.fields.specs.Field.{start, width, valueOf, withValue, digitsG
 abbrev pub readAll : List Field → List ℕ → List ℕ
 readAll [] b = []
 readAll (f ∷ fs) b = valueOf f b ∷ readAll fs b
+
+-- the place of a field in a table, counted from 0, by its first bit: in a sound table no two fields share one
+abbrev pub placeOf : List Field → Field → ℕ
+placeOf [] f = 0
+placeOf (g ∷ gs) f = cond (eqb (start g) (start f)) 0 (suc (placeOf gs f))
+
+-- of values in the table's order, the one of the field f
+abbrev pub valueIn : List Field → List ℕ → Field → ℕ
+valueIn t v f = getD v (placeOf t f) 0
 
 -- the bytes b with the values put into the fields
 abbrev pub writeAll : List Field → List ℕ → List ℕ → List ℕ

@@ -1,3 +1,4 @@
 pub mod Order
 pub mod Truth
 pub mod Fill
+pub mod Parts

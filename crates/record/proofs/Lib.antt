@@ -1,5 +1,4 @@
-pub mod Length
-pub mod Judging
 pub mod Accepted
+pub mod Count
 pub mod Signs
 pub mod RoundTrip

@@ -2,6 +2,7 @@
 use Prim.Native.Nat.{ℕ, zero, suc, _*_, _^_, _≤_, _<_}
 use mathlib.Core.Path.{_≡_, ap, sym, _∙_, subst}
 use mathlib.Core.Bool.{Bool, cond}
+use mathlib.Core.List.{List}
 use native.Mathlib.Nat.{mul-le-mul}
 use native.Mathlib.Omega.{arith}
 use lib.Dec.{eqb}
@@ -10,17 +11,34 @@ use mir.Syntax.{w64}
 use mir.Val.{SFits, toZ, ofZ}
 use mir.ValLaws.{toZ-pos, toZ-ofZ}
 use borrow.Author.Tests.{eq-eqb, ne-eqb}
-use Rattle.record.specs.FrequencyRate.{frequencyRateUnits}
+use Rattle.bits.specs.Bits.{getBits}
+use Rattle.bits.proofs.Bits.{getBits-lt}
+use Rattle.bits.proofs.Decimal.{decimal-room}
+use Rattle.fields.specs.Field.{valueOf}
+use Rattle.header.specs.Rows.{frequencyRateDigits, frequencyRatePower}
+use Rattle.record.specs.FrequencyRate.{mostDigits, frequencyRateUnits}
 
--- five digits times a power of ten below 8
-pub size-bound : (d t : ℕ) → d < 100000 → t ≤ 10000000 → d * t ≤ 999990000000
-size-bound d t p q = mul-le-mul {n₁ = d} {m₁ = t} {n₂ = 99999} {m₂ = 10000000} (omega arith) q
+-- digits and power of any bytes
+pub digits-small : (b : List ℕ) → valueOf frequencyRateDigits b < mostDigits
+unfolding valueOf
+digits-small b = omega (arith, decimal-room 5 (getBits 408 20 b))
 
-negative-fits : (x : ℕ) → x ≤ 999990000000 → SFits w64 (negℤ (pos x))
+pub power-small : (b : List ℕ) → valueOf frequencyRatePower b < 8
+unfolding valueOf
+power-small b = getBits-lt 428 3 b
+
+-- the greatest size: digits times a power of ten below 8
+abbrev pub mostUnits : ℕ
+mostUnits = mostDigits * 10000000
+
+pub size-bound : (d t : ℕ) → d < mostDigits → t ≤ 10000000 → d * t ≤ mostUnits
+size-bound d t p q = mul-le-mul {n₁ = d} {m₁ = t} {n₂ = mostDigits} {m₂ = 10000000} (omega arith) q
+
+negative-fits : (x : ℕ) → x ≤ mostUnits → SFits w64 (negℤ (pos x))
 negative-fits zero h = record { sfits = omega arith }
 negative-fits (suc x) h = record { sfits = omega arith }
 
-module _ (x : ℕ) (h : x ≤ 999990000000) where
+module _ (x : ℕ) (h : x ≤ mostUnits) where
   pub positive : toZ w64 x ≡ pos x
   positive = toZ-pos w64 x (omega arith)
 

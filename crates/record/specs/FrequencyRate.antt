@@ -1,22 +1,35 @@
--- The frequency rate as a signed number. 01: "Frequency rate, in units of 0.00001 Hz/s, is the five digits times 10^m; sign
--- bit 0 is negative, 1 positive. ... Zero has one value".
+-- The frequency rate as a signed number, in units of 0.00001 Hz/s: five digits times a power of ten; sign bit 0 is negative, 1
+-- positive; zero has one value. FORMAT, "Frequency rate".
 use Prim.Native.Nat.{ℕ, _*_, _^_}
 use mathlib.Core.Bool.{cond}
 use mathlib.Core.List.{List}
 use lib.Dec.{eqb}
 use lib.IntN.{ℤ, pos, negℤ}
-use Rattle.header.specs.declared.Header.{Header}
-use Rattle.header.specs.Header.{headerOf}
-use Rattle.answers.specs.Answer.{Answer, unless}
+use Rattle.answers.specs.Answer.{Answer, accepted, refused, unless}
+use Rattle.fields.specs.Field.{valueOf}
+use Rattle.header.specs.Rows.{frequencyRateDigits, frequencyRatePower, frequencyRateSign}
+use Rattle.record.specs.declared.FrequencyRateAnswer.{FrequencyRateAnswer}
+use Rattle.record.specs.declared.FrequencyRateAnswer.the-variants as FrequencyRateAnswer
 use Rattle.record.specs.Record.{recordRefusal}
+
+-- five digits of four bits, decimal or not, are less than this
+abbrev pub mostDigits : ℕ
+mostDigits = 200000
 
 -- by digits, power and sign bit
 unfoldable pub frequencyRateUnits : ℕ → ℕ → ℕ → ℤ
 frequencyRateUnits digits power sign = cond (eqb sign 1) (pos (digits * 10 ^ power)) (negℤ (pos (digits * 10 ^ power)))
 
-abbrev pub headerRate : Header → ℤ
-headerRate h = frequencyRateUnits (h .«rate_digits») (h .«rate_power») (h .«rate_sign»)
+-- of any bytes
+unfoldable pub frequencyRateOf : List ℕ → ℤ
+frequencyRateOf b =
+    frequencyRateUnits (valueOf frequencyRateDigits b) (valueOf frequencyRatePower b) (valueOf frequencyRateSign b)
 
 -- of a record, or its refusal
 unfoldable pub frequencyRateAnswer : List ℕ → Answer ℤ
-frequencyRateAnswer b = unless (recordRefusal b) (pos 0) (headerRate (headerOf b))
+frequencyRateAnswer b = unless (recordRefusal b) (pos 0) (frequencyRateOf b)
+
+-- the number and the value for each case of the code's answer
+abbrev pub shownFrequencyRate : FrequencyRateAnswer → Answer ℤ
+shownFrequencyRate (FrequencyRateAnswer.Units x) = accepted x
+shownFrequencyRate (FrequencyRateAnswer.Refused n) = refused (pos 0) n

@@ -1,4 +1,3 @@
 pub mod Record
-pub mod FrequencyRate
-pub mod Shown
 pub mod Stretch
+pub mod FrequencyRate

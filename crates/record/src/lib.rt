@@ -1,31 +1,25 @@
-// Records of 1985: which are accepted, their header read and written, and the frequency rate. 01: "The record", refusals 1 to
-// 11 and 22. Every function here takes any bytes; a refusal is 01's number, and 0 is none.
+// Records of 1985: which are accepted, their header read and written, their samples' stretch and the frequency rate. FORMAT, "The
+// record", "Refusal numbers", "Frequency rate". Every public function takes any bytes; a refusal is a number, and 0 is none.
 ghost use mathlib.Core.Path.{_≡_};
-ghost use mathlib.Core.Bool.{not};
-ghost use mathlib.Core.List.{[], _∷_};
-ghost use Prim.Native.Nat.{_+_, _*_, _^_, _≤_, _<_};
-ghost use lib.Dec.{eqb};
+ghost use Prim.Native.Nat.{_^_, _≤_, _<_};
 ghost use lib.ListN.{length};
-ghost use Rattle.sample_rates.specs.Rates.{sampleRateOf};
-ghost use Rattle.answers.specs.Refusal.{_when_, first, _then_};
-ghost use Rattle.record.specs.Record.{checksOn, checks, recordRefusal, headerAnswer, writeRefusal, afterWriting};
-ghost use Rattle.record.specs.FrequencyRate.{frequencyRateUnits, frequencyRateAnswer};
-ghost use Rattle.record.specs.Shown.{shownHeader, shownFrequencyRate};
-use header::Header;
+ghost use Rattle.fields.specs.Field.{valueOf, decimalFits};
+ghost use Rattle.fields.specs.Table.{allDigitsGood, allFit, valueIn};
+ghost use Rattle.header.specs.Format.{fields1985};
+ghost use Rattle.sample_rates.specs.Rates.{mostSamples};
+ghost use Rattle.checks.specs.Checks.{judgedOf};
+ghost use Rattle.record.specs.Record.{recordRefusal, headerAnswer, shownHeader, writeRefusal, afterWriting};
+ghost use Rattle.record.specs.Stretch.{recordRate, sampleCount, stretchOf};
+ghost use Rattle.record.specs.FrequencyRate.{mostDigits, frequencyRateUnits, frequencyRateOf, frequencyRateAnswer, shownFrequencyRate};
+use checks::Judged;
+use header::FIELD_COUNT;
+use header::HEADER_BYTES;
+use sample_rates::SampleRate;
 
-// Bytes of the header.
-pub const HEADER_BYTES: usize = 80;
-
-// The last millisecond of a day.
-const LAST_MS: u64 = 86_399_999;
-
-// A55A hex.
-const SYNC_PATTERN: u64 = 42_330;
-
-// A header that was read, or the refusal.
-pub enum HeaderAnswer {
-    Accepted(Header),
-    Refused(u8),
+// A header that was read, beside the refusal; with one, every value is 0. An enum cannot hold an array.
+pub struct HeaderAnswer {
+    pub refusal: u8,
+    pub values: [u64; FIELD_COUNT],
 }
 
 // The frequency rate in units of 0.00001 Hz/s, or the refusal.
@@ -34,143 +28,26 @@ pub enum FrequencyRateAnswer {
     Refused(u8),
 }
 
-// Whether a length in bytes is not twice a length in words; no product, so that no number of words can wrap.
-fn wrong_length(bytes: usize, words: u64) -> bool
-    ensures { λ r. ⌜ r ≡ not (eqb bytes (2 * words)) ⌝ }
+// What 1 to 11 judge of the bytes. Only those fields are read.
+fn judged(bytes: &[u8]) -> Judged
+    ensures { λ r. ⌜ r ≡ judgedOf (length (now (bytes .entry))) (λ f. valueOf f (now (bytes .entry))) (allDigitsGood fields1985 (now (bytes .entry))) ⌝ }
 {
-    let whole = (bytes / 2) as u64;
-    (bytes % 2 != 0) | (whole != words)
-}
-
-// The number of the first check of 1 to 11 that applies, or 0.
-fn first_of(
-    short: bool,
-    length: bool,
-    conversion: bool,
-    compression: bool,
-    rate: bool,
-    size: bool,
-    zero: bool,
-    date: bool,
-    time: bool,
-    digits: bool,
-    sync: bool,
-) -> u8
-    ensures { λ r. ⌜ r ≡ first (1 when short ∷ 2 when length ∷ 3 when conversion ∷ 4 when compression ∷ 5 when rate ∷ 6 when size ∷ 7 when zero ∷ 8 when date ∷ 9 when time ∷ 10 when digits ∷ 11 when sync ∷ []) ⌝ }
-{
-    if short {
-        return 1;
+    Judged {
+        bytes: bytes.len(),
+        length_words: fields::read_field(bytes, header::LENGTH_WORDS),
+        conversion: fields::read_field(bytes, header::CONVERSION),
+        compression: fields::read_field(bytes, header::COMPRESSION),
+        sample_rate: fields::read_field(bytes, header::SAMPLE_RATE),
+        tape_number: fields::read_field(bytes, header::TAPE_NUMBER),
+        record_number: fields::read_field(bytes, header::RECORD_NUMBER),
+        year: fields::read_field(bytes, header::YEAR),
+        day: fields::read_field(bytes, header::DAY),
+        time_tag: fields::read_field(bytes, header::TIME_TAG),
+        readback_tag: fields::read_field(bytes, header::READBACK_TAG),
+        decimals: header::digits_good(bytes),
+        clock_origin: fields::read_field(bytes, header::CLOCK_ORIGIN),
+        sync: fields::read_field(bytes, header::SYNC),
     }
-    if length {
-        return 2;
-    }
-    if conversion {
-        return 3;
-    }
-    if compression {
-        return 4;
-    }
-    if rate {
-        return 5;
-    }
-    if size {
-        return 6;
-    }
-    if zero {
-        return 7;
-    }
-    if date {
-        return 8;
-    }
-    if time {
-        return 9;
-    }
-    if digits {
-        return 10;
-    }
-    if sync {
-        return 11;
-    }
-    0
-}
-
-// The refusal of a record of this many bytes with these values of its header, whose decimal fields are decimal or not.
-fn judge_values(
-    bytes: usize,
-    words: u64,
-    conversion: u64,
-    compression: u64,
-    hz: u64,
-    tape: u64,
-    number: u64,
-    year: u64,
-    day: u64,
-    tag: u64,
-    readback_tag: u64,
-    decimals: bool,
-    origin: u64,
-    sync: u64,
-) -> u8
-    ensures { λ r. ⌜ r ≡ first (checksOn (sampleRateOf hz) bytes words conversion compression tape number year day tag «readback_tag» decimals origin sync) ⌝ }
-{
-    let rate = sample_rates::sample_rate_of(hz);
-    first_of(
-        bytes < HEADER_BYTES,
-        wrong_length(bytes, words),
-        conversion == 1,
-        compression != 1,
-        rate.hz == 0,
-        (words != rate.words_b) & (words != rate.words_a),
-        (tape == 0) | (number == 0),
-        (year > 99) | ((day == 0) | (day > 366)),
-        (tag > LAST_MS) | (readback_tag > LAST_MS),
-        !decimals,
-        (origin == 1) & (sync != SYNC_PATTERN),
-    )
-}
-
-// The refusal of a record of this many bytes with this header, whose decimal fields are decimal or not.
-fn judge(bytes: usize, h: Header, decimals: bool) -> u8
-    ensures { λ r. ⌜ r ≡ first (checks bytes h decimals) ⌝ }
-{
-    judge_values(
-        bytes,
-        h.length_words,
-        h.conversion,
-        h.compression,
-        h.sample_rate_hz,
-        h.tape_number,
-        h.record_number,
-        h.year,
-        h.day,
-        h.time_tag_ms,
-        h.readback_tag_ms,
-        decimals,
-        h.clock_origin,
-        h.sync_word,
-    )
-}
-
-// The refusal of the bytes as a record. Only the fields that it judges are read.
-fn judge_bytes(bytes: &[u8]) -> u8
-    ensures { λ r. ⌜ r ≡ recordRefusal (now (bytes .entry)) ⌝ }
-{
-    judge_values(
-        bytes.len(),
-        fields::read_field(bytes, header::LENGTH_WORDS),
-        fields::read_field(bytes, header::CONVERSION),
-        fields::read_field(bytes, header::COMPRESSION),
-        fields::read_field(bytes, header::SAMPLE_RATE_HZ),
-        fields::read_field(bytes, header::TAPE_NUMBER),
-        fields::read_field(bytes, header::RECORD_NUMBER),
-        fields::read_field(bytes, header::YEAR),
-        fields::read_field(bytes, header::DAY),
-        fields::read_field(bytes, header::TIME_TAG_MS),
-        fields::read_field(bytes, header::READBACK_TAG_MS),
-        header::good_digits(bytes),
-        fields::read_field(bytes, header::CLOCK_ORIGIN),
-        fields::read_field(bytes, header::SYNC_WORD),
-    )
 }
 
 // The refusal of the bytes as a record, 1 to 11, or 0 where they are accepted. The length is tested first, so that no field past
@@ -181,45 +58,94 @@ pub fn refusal_of(bytes: &[u8]) -> u8
     if bytes.len() < HEADER_BYTES {
         return 1;
     }
-    judge_bytes(bytes)
+    checks::first_check(judged(bytes))
 }
 
 // The header of a record.
 pub fn read_header(bytes: &[u8]) -> HeaderAnswer
     ensures { λ r. ⌜ shownHeader r ≡ headerAnswer (now (bytes .entry)) ⌝ }
 {
-    let n = refusal_of(bytes);
-    if n == 0 {
-        return HeaderAnswer::Accepted(header::read_fields(bytes));
+    let refusal = refusal_of(bytes);
+    if refusal == 0 {
+        return HeaderAnswer {
+            refusal: 0,
+            values: header::read_values(bytes),
+        };
     }
-    HeaderAnswer::Refused(n)
+    HeaderAnswer {
+        refusal,
+        values: [0; FIELD_COUNT],
+    }
 }
 
-// The refusal of a header to be written into this many bytes, 1 to 11 or 22, or 0.
-fn judge_writing(bytes: usize, h: Header) -> u8
-    ensures { λ r. ⌜ r ≡ writeRefusal bytes h ⌝ }
+// What 1 to 11 judge of values to be written into this many bytes.
+fn judged_values(bytes: usize, values: [u64; FIELD_COUNT]) -> Judged
+    ensures { λ r. ⌜ r ≡ judgedOf bytes (valueIn fields1985 values) (allFit decimalFits fields1985 values) ⌝ }
 {
-    let refusal = judge(bytes, h, header::decimals_fit(h));
-    if refusal != 0 {
-        return refusal;
+    let decimals = header::decimals_fit(values);
+    Judged {
+        bytes,
+        length_words: values[header::AT_LENGTH_WORDS],
+        conversion: values[header::AT_CONVERSION],
+        compression: values[header::AT_COMPRESSION],
+        sample_rate: values[header::AT_SAMPLE_RATE],
+        tape_number: values[header::AT_TAPE_NUMBER],
+        record_number: values[header::AT_RECORD_NUMBER],
+        year: values[header::AT_YEAR],
+        day: values[header::AT_DAY],
+        time_tag: values[header::AT_TIME_TAG],
+        readback_tag: values[header::AT_READBACK_TAG],
+        decimals,
+        clock_origin: values[header::AT_CLOCK_ORIGIN],
+        sync: values[header::AT_SYNC],
     }
-    if header::binaries_fit(h) {
-        return 0;
-    }
-    22
 }
 
-// The header goes into the bytes of a record of its length. Bits that 01 does not name and all bytes past the header stay.
-pub fn write_header(bytes: &mut [u8], h: Header) -> u8
-    ensures { λ r. ⌜ r ≡ writeRefusal (length (now (bytes .entry))) h ⌝ }
-    ensures { λ r. ⌜ now (bytes .exit) ≡ afterWriting (now (bytes .entry)) h ⌝ }
+// The refusal of values to be written into this many bytes, 1 to 11 or 22, or 0.
+fn judge_writing(bytes: usize, values: [u64; FIELD_COUNT]) -> u8
+    ensures { λ r. ⌜ r ≡ writeRefusal bytes values ⌝ }
 {
-    let n = judge_writing(bytes.len(), h);
-    if n == 0 {
-        header::write_fields(bytes, h);
+    let refusal = checks::first_check(judged_values(bytes, values));
+    let fit = header::binaries_fit(values);
+    answers::first_refusal(refusal, answers::check(22, !fit, 0))
+}
+
+// The values go into the header of a record of their length. Bits that no field names and all bytes past the header stay.
+pub fn write_header(bytes: &mut [u8], values: [u64; FIELD_COUNT]) -> u8
+    ensures { λ r. ⌜ r ≡ writeRefusal (length (now (bytes .entry))) values ⌝ }
+    ensures { λ r. ⌜ now (bytes .exit) ≡ afterWriting (now (bytes .entry)) values ⌝ }
+{
+    let refusal = judge_writing(bytes.len(), values);
+    if refusal == 0 {
+        header::write_values(bytes, values);
         return 0;
     }
-    n
+    refusal
+}
+
+// The line of the table of sample rates that a record's header names; a line of zeros where it is no rate.
+pub fn rate_of(bytes: &[u8]) -> SampleRate
+    ensures { λ r. ⌜ r ≡ recordRate (now (bytes .entry)) ⌝ }
+{
+    sample_rates::sample_rate_of(fields::read_field(bytes, header::SAMPLE_RATE))
+}
+
+// The samples that each channel has in a record.
+pub fn sample_count(bytes: &[u8]) -> usize
+    ensures { λ r. ⌜ (r ≡ sampleCount (now (bytes .entry))) × (r ≤ mostSamples) ⌝ }
+{
+    let rate = rate_of(bytes);
+    rate.samples as usize
+}
+
+// The sample stretch of a record, a part of it; of bytes that are too short for it, what there is.
+pub fn sample_stretch<'a>(bytes: &'a [u8]) -> &'a [u8]
+    ensures { λ r. ⌜ now r ≡ stretchOf (now (bytes .entry)) ⌝ }
+{
+    let count = sample_count(bytes);
+    let start = lists::lesser(HEADER_BYTES, bytes.len());
+    let end = lists::lesser(HEADER_BYTES + 4 * count, bytes.len());
+    &bytes[start..end]
 }
 
 // 10 to a power below 8.
@@ -238,7 +164,7 @@ fn ten_to(power: u64) -> u64
 
 // The rate by its digits, power and sign bit.
 fn frequency_rate_units(digits: u64, power: u64, sign: u64) -> i64
-    requires { ⌜ (digits < 100000) × (power < 8) ⌝ }
+    requires { ⌜ (digits < mostDigits) × (power < 8) ⌝ }
     ensures { λ r. ⌜ r ≡ frequencyRateUnits digits power sign ⌝ }
 {
     let size = (digits * ten_to(power)) as i64;
@@ -248,14 +174,23 @@ fn frequency_rate_units(digits: u64, power: u64, sign: u64) -> i64
     0 - size
 }
 
+// The frequency rate that any bytes hold: digits that are not decimal count as they stand.
+pub fn frequency_rate_of(bytes: &[u8]) -> i64
+    ensures { λ r. ⌜ r ≡ frequencyRateOf (now (bytes .entry)) ⌝ }
+{
+    let digits = fields::read_field(bytes, header::FREQUENCY_RATE_DIGITS);
+    let power = fields::read_field(bytes, header::FREQUENCY_RATE_POWER);
+    let sign = fields::read_field(bytes, header::FREQUENCY_RATE_SIGN);
+    frequency_rate_units(digits, power, sign)
+}
+
 // The frequency rate of a record.
 pub fn frequency_rate(bytes: &[u8]) -> FrequencyRateAnswer
     ensures { λ r. ⌜ shownFrequencyRate r ≡ frequencyRateAnswer (now (bytes .entry)) ⌝ }
 {
-    let n = refusal_of(bytes);
-    if n != 0 {
-        return FrequencyRateAnswer::Refused(n);
+    let refusal = refusal_of(bytes);
+    if refusal != 0 {
+        return FrequencyRateAnswer::Refused(refusal);
     }
-    let h = header::read_fields(bytes);
-    FrequencyRateAnswer::Units(frequency_rate_units(h.rate_digits, h.rate_power, h.rate_sign))
+    FrequencyRateAnswer::Units(frequency_rate_of(bytes))
 }

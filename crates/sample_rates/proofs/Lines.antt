@@ -10,8 +10,9 @@ use lib.ListN.{length, getD, drop, drop-of-length-le}
 use lib.Seq.{drop-cons}
 use borrow.Author.Tests.{eq-eqb, ne-eqb, eqb-true}
 use Rattle.lists.proofs.Truth.{left, right, each}
+use Rattle.header.specs.Format.{headerBytes}
 use Rattle.sample_rates.specs.declared.SampleRate.{SampleRate}
-use Rattle.sample_rates.specs.Rates.{rates, noRate, lineIn, sampleRateOf, rateHz, recordsPerSecond, samplesPerRecord, lastSampleWord, wordsA, wordsB, lineTests, soundLine, soundLines}
+use Rattle.sample_rates.specs.Rates.{rates, noRate, lineIn, sampleRateOf, rateHz, recordsPerSecond, samplesPerRecord, lastSampleWord, wordsA, wordsB, mostSamples, lineTests, soundLine, soundLines}
 
 -- ## the loop over the lines
 
@@ -41,11 +42,11 @@ pub record SoundLine (hz : ℕ) (l : SampleRate) : Type 0 where
   pub positive : 1 ≤ rateHz l
   pub second : recordsPerSecond l * samplesPerRecord l ≡ rateHz l
   pub even : 1000000 % rateHz l ≡ 0
-  pub last : lastSampleWord l ≡ 40 + 2 * samplesPerRecord l
+  pub last : 2 * lastSampleWord l ≡ headerBytes + 4 * samplesPerRecord l
   pub shorter : wordsA l ≡ lastSampleWord l + 150
   pub longer : wordsB l ≡ lastSampleWord l + 155
   pub some : 1 ≤ samplesPerRecord l
-  pub most : samplesPerRecord l ≤ 1000
+  pub most : samplesPerRecord l ≤ mostSamples
 
 of-test : (hz : ℕ) (l : SampleRate) → rateHz l ≡ hz → T (soundLine l) → SoundLine hz l
 of-test hz l e t =
@@ -58,7 +59,7 @@ of-test hz l e t =
       shorter = eqb→eq _ _ (each (lineTests l) 4 t);
       longer = eqb→eq _ _ (each (lineTests l) 5 t);
       some = leb→le 1 (samplesPerRecord l) (each (lineTests l) 6 t);
-      most = leb→le (samplesPerRecord l) 1000 (each (lineTests l) 7 t);
+      most = leb→le (samplesPerRecord l) mostSamples (each (lineTests l) 7 t);
     }
 
 -- a rate has a sound line, or no line

@@ -4,6 +4,7 @@ use mathlib.Core.Bool.{Bool, true, cond, _&&_}
 use mathlib.Core.List.{List, [], _∷_}
 use lib.Dec.{eqb, leb}
 use Rattle.lists.specs.Tests.{all}
+use Rattle.header.specs.Format.{headerBytes}
 use Rattle.sample_rates.specs.declared.SampleRate.{SampleRate}
 
 -- a line: rate, records a second L, samples a channel, N, words in OP-B, words in OP-A
@@ -61,18 +62,22 @@ isNoRate l = eqb (rateHz l) 0
 abbrev pub intervalUs : SampleRate → ℕ
 intervalUs l = 1000000 / rateHz l
 
--- the one test of a line: L records of its samples make a second of the rate, a million divides evenly, the samples end at
--- word N, 150 monitor words follow, and in OP-B five words more
+-- no record has more samples of a channel
+abbrev pub mostSamples : ℕ
+mostSamples = 1000
+
+-- the one test of a line: L records of its samples make a second of the rate, a million divides evenly, the header and four
+-- bytes a sample end at word N, 150 monitor words follow, and in OP-B five words more
 abbrev pub lineTests : SampleRate → List Bool
 lineTests l =
     leb 1 (rateHz l) ∷
     eqb (recordsPerSecond l * samplesPerRecord l) (rateHz l) ∷
     eqb (1000000 % rateHz l) 0 ∷
-    eqb (lastSampleWord l) (40 + 2 * samplesPerRecord l) ∷
+    eqb (2 * lastSampleWord l) (headerBytes + 4 * samplesPerRecord l) ∷
     eqb (wordsA l) (lastSampleWord l + 150) ∷
     eqb (wordsB l) (lastSampleWord l + 155) ∷
     leb 1 (samplesPerRecord l) ∷
-    leb (samplesPerRecord l) 1000 ∷
+    leb (samplesPerRecord l) mostSamples ∷
     []
 
 abbrev pub soundLine : SampleRate → Bool

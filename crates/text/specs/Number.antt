@@ -1,4 +1,4 @@
--- Numbers as text (01, "The lister"): decimalText digits, decimalText places, a minus below zero. Characters are their ASCII numbers.
+-- Numbers as text (01, "The lister"): decimal digits, decimal places, a minus below zero. Characters are their ASCII numbers.
 use mathlib.Core.Bool.{Bool, true, false}
 use mathlib.Core.List.{List, [], _∷_, _++_}
 use Prim.Native.Nat.{ℕ, zero, suc, _+_, _-_, _*_, _/_, _%_, _^_}
@@ -33,7 +33,7 @@ unfoldable pub places : ℕ → ℕ → List ℕ
 places zero n = []
 places (suc k) n = places k (n / 10) ++ digit n ∷ []
 
--- n units of the k-th decimalText place: "hertz with six places" are made of microhertz
+-- n units of the k-th decimal place: "hertz with six places" are made of microhertz
 unfoldable pub fixed : ℕ → ℕ → List ℕ
 fixed k n = decimalText (n / 10 ^ k) ++ ascii "." ++ places k n
 

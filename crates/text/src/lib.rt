@@ -70,7 +70,7 @@ fn fixed_length(places: usize, n: u64) -> usize
     }
 }
 
-// Writes the leading digits with one decimalText place less, then the last.
+// Writes the leading digits with one decimal place less, then the last.
 fn write_fixed(out: &mut [u8], at: usize, places: usize, n: u64) -> usize
     requires { ⌜ Room (now out) at (fixed places n) ⌝ }
     ensures { λ r. ⌜ Written (now (out .entry)) at (fixed places n) r (now (out .exit)) ⌝ }

@@ -1,4 +1,3 @@
--- The size of the rate, then its sign. Assumes nothing.
 use mathlib.Core.Path.{_∙_}
 use native.Mathlib.Omega.{arith}
 use Prim.Native.Nat.{_*_}

@@ -1,12 +1,12 @@
--- Fewer bytes than a header's are refusal 1, the first check. Assumes nothing.
 use Prim.Native.Nat.{ℕ}
-use mathlib.Core.Path.{_≡_, sym, ap}
+use mathlib.Core.Path.{_≡_, sym, ap, _∙_}
 use mathlib.Core.Bool.{Bool, true, cond}
-use lib.ListN.{length}
-use denote.Ref.{now}
 use borrow.Author.Tests.{lt-ltb}
-use borrow.Author.Needs.{needs}
+use Rattle.answers.specs.Refusal.{first}
+use Rattle.checks.specs.declared.Judged.{Judged}
+use Rattle.checks.specs.Checks.{checks}
 use Rattle.record.specs.Record.{recordRefusal}
+use borrow.Author.Needs.{needs}
 use Rattle.record.proofs.refusal_of.Statement.{statement}
 use Rattle.record.proofs.refusal_of.Tie as tie
 
@@ -17,11 +17,9 @@ returns : tie.Need-returns
 unfolding recordRefusal
 returns c = applied _ _ _ (lt-ltb _ _ (c .if1 .taken))
 
-judge-bytes-requires : tie.Need-judge-bytes-requires
-judge-bytes-requires c κs = search needs
-
 returns-2 : tie.Need-returns-2
-returns-2 c = search needs
+unfolding recordRefusal
+returns-2 c = c .first-check .ensures ∙ ap (λ (j : Judged). first (checks j)) (c .before .judged .ensures)
 
 pub refusal-of-spec : {M : Type 1} → statement M
-refusal-of-spec = tie.close (tie.spec returns judge-bytes-requires returns-2)
+refusal-of-spec = tie.close (tie.spec returns (λ c κs. search needs) (λ c κs. search needs) returns-2)

@@ -1,10 +1,8 @@
--- Judged first, then written or left alone. Assumes nothing.
 use mathlib.Core.Path.{_∙_, sym}
 use denote.Ref.{now}
 use lib.ListN.{length}
 use Rattle.fields.specs.Table.{writeAll}
-use Rattle.header.specs.Format.{fields}
-use Rattle.header.specs.Header.{values}
+use Rattle.header.specs.Format.{fields1985}
 use Rattle.record.specs.Record.{writeRefusal, afterWriting}
 use Rattle.answers.proofs.Refusals.{cond-none, cond-some}
 use borrow.Author.Needs.{needs}
@@ -14,8 +12,8 @@ use Rattle.record.proofs.write_header.Tie as tie
 judge-writing-requires : tie.Need-judge-writing-requires
 judge-writing-requires c κs = search needs
 
-write-fields-requires : tie.Need-write-fields-requires
-write-fields-requires c κs = search needs
+write-values-requires : tie.Need-write-values-requires
+write-values-requires c κs = search needs
 
 same-length : tie.Need-same-length
 same-length c = search needs
@@ -28,7 +26,7 @@ returns c =
     let a = t .before .before .before .args in
     let b = now (a .bytes) in
     let e = sym (t .before .judge-writing .ensures) ∙ t .if1 .taken in
-    (sym e, w .write-fields .ensures ∙ sym (cond-none (writeRefusal (length b) (a .h)) b (writeAll fields (values (a .h)) b) e))
+    (sym e, w .write-values .ensures ∙ sym (cond-none (writeRefusal (length b) (a .values)) b (writeAll fields1985 (a .values) b) e))
 
 returns-2 : tie.Need-returns-2
 unfolding afterWriting
@@ -36,8 +34,8 @@ returns-2 c =
     let j = c .before in
     let a = j .before .before .args in
     let b = now (a .bytes) in
-    (j .judge-writing .ensures, sym (cond-some (writeRefusal (length b) (a .h)) b (writeAll fields (values (a .h)) b) (λ z. c .if1 .left (j .judge-writing .ensures ∙ z))))
+    (j .judge-writing .ensures, sym (cond-some (writeRefusal (length b) (a .values)) b (writeAll fields1985 (a .values) b) (λ z. c .if1 .left (j .judge-writing .ensures ∙ z))))
 
 pub write-header-spec : {M : Type 1} → statement M
 write-header-spec =
-    tie.close (tie.spec judge-writing-requires write-fields-requires same-length returns returns-2)
+    tie.close (tie.spec judge-writing-requires write-values-requires same-length returns returns-2)

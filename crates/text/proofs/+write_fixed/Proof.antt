@@ -1,4 +1,4 @@
--- `text::write_fixed` meets its contract, by the decimalText places, whose number falls. Assumes nothing.
+-- `text::write_fixed` meets its contract, by the decimal places, whose number falls. Assumes nothing.
 use mathlib.Core.List.{[], _∷_}
 use Prim.Native.Nat.{ℕ, _<_}
 use native.Mathlib.Omega.{arith}

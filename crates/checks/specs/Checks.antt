@@ -1,0 +1,75 @@
+-- Refusals 1 to 11, in the order of checking. FORMAT, "Refusal numbers".
+use Prim.Native.Nat.{ℕ, _*_}
+use mathlib.Core.Bool.{Bool, not, _&&_, _||_}
+use mathlib.Core.List.{List, [], _∷_}
+use lib.Dec.{eqb, ltb}
+use Rattle.answers.specs.Refusal.{Check, _when_}
+use Rattle.fields.specs.declared.Field.{Field}
+use Rattle.header.specs.Format.{headerBytes}
+use Rattle.header.specs.Rows.{
+  clockOrigin,
+  conversion,
+  compression,
+  tapeNumber,
+  recordNumber,
+  lengthWords,
+  year,
+  day,
+  timeTag,
+  readbackTag,
+  sampleRate,
+  sync,
+}
+use Rattle.sample_rates.specs.declared.SampleRate.{SampleRate}
+use Rattle.sample_rates.specs.Rates.{sampleRateOf, isNoRate, wordsA, wordsB}
+use Rattle.checks.specs.declared.Judged.{Judged}
+
+-- the last millisecond of a day, and the sync word A55A hex
+abbrev pub lastMs : ℕ
+lastMs = 86399999
+
+abbrev pub syncPattern : ℕ
+syncPattern = 42330
+
+-- 8: a year above 99, or a day that is 0 or above 366
+abbrev pub wrongDate : ℕ → ℕ → Bool
+wrongDate year day = ltb 99 year || (eqb day 0 || ltb 366 day)
+
+-- the checks, by the line of the sample rate
+abbrev pub checksBy : SampleRate → Judged → List Check
+checksBy rate j =
+    1 when ltb (j .bytes) headerBytes ∷
+    2 when not (eqb (j .bytes) (2 * j .«length_words»)) ∷
+    3 when eqb (j .conversion) 1 ∷
+    4 when not (eqb (j .compression) 1) ∷
+    5 when isNoRate rate ∷
+    6 when (not (eqb (j .«length_words») (wordsB rate)) && not (eqb (j .«length_words») (wordsA rate))) ∷
+    7 when (eqb (j .«tape_number») 0 || eqb (j .«record_number») 0) ∷
+    8 when wrongDate (j .year) (j .day) ∷
+    9 when (ltb lastMs (j .«time_tag») || ltb lastMs (j .«readback_tag»)) ∷
+    10 when not (j .decimals) ∷
+    11 when (eqb (j .«clock_origin») 1 && not (eqb (j .sync) syncPattern)) ∷
+    []
+
+abbrev pub checks : Judged → List Check
+checks j = checksBy (sampleRateOf (j .«sample_rate»)) j
+
+-- what is judged of n bytes whose header has these values, and whose decimal fields are decimal or not
+abbrev pub judgedOf : ℕ → (Field → ℕ) → Bool → Judged
+judgedOf n value decimals =
+    record {
+      bytes = n;
+      «length_words» = value lengthWords;
+      conversion = value conversion;
+      compression = value compression;
+      «sample_rate» = value sampleRate;
+      «tape_number» = value tapeNumber;
+      «record_number» = value recordNumber;
+      year = value year;
+      day = value day;
+      «time_tag» = value timeTag;
+      «readback_tag» = value readbackTag;
+      decimals = decimals;
+      «clock_origin» = value clockOrigin;
+      sync = value sync;
+    }

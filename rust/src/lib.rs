@@ -1,0 +1,383 @@
+//! The verified library of radio science records (ODR), called from Rust: a safe wrapper of each function of c/odr.h, with the
+//! same names less `odr_`. docs/FORMAT.md defines the record, the refusals and the index of seconds.
+//!
+//! Every call takes any bytes and ends. An answer has a refusal number first, which is 0 for none ([`mod@refusal`]); beside a
+//! refusal every other member is 0, and a refused call writes nothing to what it was lent.
+//!
+//! ```no_run
+//! let reel = std::fs::read("data/sample.odr").unwrap();
+//! let (mut place, mut header) = (0, [0; odr::HEADER_VALUES]);
+//! loop {
+//!     let step = odr::step(&reel, place);
+//!     if step.answer != odr::refusal::NONE {
+//!         break;
+//!     }
+//!     let record = &reel[step.start..step.end];
+//!     assert_eq!(odr::read_header(record, &mut header), odr::refusal::NONE);
+//!     println!("record {} at {} ms", header[odr::field::RECORD_NUMBER], header[odr::field::TIME_TAG_MS]);
+//!     place = step.end;
+//! }
+//! ```
+//!
+//! The compiler does not check that the declarations here are those of c/odr.h and of the library: tests/names.rs compares the
+//! names and numbers, and tests/differential.sh runs every call.
+
+/// Bytes of the longest accepted record.
+pub const LONGEST_RECORD: usize = 4_390;
+/// Bytes of the longest monitor segment.
+pub const LONGEST_SEGMENT: usize = 90;
+/// Cells of a row, and of a second.
+pub const CELLS: usize = 20;
+/// A longer input gets the line `refused,24`.
+pub const LONGEST_INPUT: usize = 65_536;
+/// A buffer of so many bytes holds the listing of any input.
+pub const LONGEST_LISTING: usize = 4_335;
+/// What [`step`] answers at the end of a reel: no refusal has this number.
+pub const FINISHED: u8 = 255;
+/// The values of a header.
+pub const HEADER_VALUES: usize = 46;
+
+/// The refusal numbers of docs/FORMAT.md, "Refusal numbers".
+pub mod refusal {
+    /// No refusal.
+    pub const NONE: u8 = 0;
+    /// Fewer than 80 bytes; on a reel also a word 3 below 40.
+    pub const TOO_SHORT: u8 = 1;
+    /// The bytes are not twice word 3; on a reel: fewer are left than that.
+    pub const WRONG_LENGTH: u8 = 2;
+    /// Conversion bit 1.
+    pub const NOT_8_BITS: u8 = 3;
+    /// Compression is not 0001.
+    pub const COMPRESSED: u8 = 4;
+    /// None of the seven sample rates.
+    pub const NO_SUCH_RATE: u8 = 5;
+    /// The record's length is neither of its rate's two.
+    pub const NOT_THE_RATES_LENGTH: u8 = 6;
+    /// Tape or record number 0.
+    pub const NUMBER_ZERO: u8 = 7;
+    /// Year above 99, day 0 or above 366.
+    pub const NO_SUCH_DATE: u8 = 8;
+    /// Record or readback time tag above 86,399,999 ms.
+    pub const PAST_THE_DAY: u8 = 9;
+    /// A decimal digit above 9.
+    pub const NO_DIGIT: u8 = 10;
+    /// Clock origin 1 and a sync word other than A55A hex.
+    pub const WRONG_SYNC: u8 = 11;
+    /// A channel's buffer is too short for the record's samples, or there is no such sample.
+    pub const NO_SUCH_SAMPLE: u8 = 12;
+    /// Of an index.
+    pub const WRONG_LIMITS: u8 = 13;
+    /// Of an index.
+    pub const TOO_FEW_CELLS: u8 = 14;
+    /// The record is of another reel than the index.
+    pub const OTHER_REEL: u8 = 15;
+    /// The record number is not one of 1 to the index's highest.
+    pub const NUMBER_OUTSIDE: u8 = 16;
+    /// The second is not one of the index's window.
+    pub const SECOND_OUTSIDE: u8 = 17;
+    /// The second holds as many other records as a second has.
+    pub const SECOND_FULL: u8 = 18;
+    /// No record of that number is held.
+    pub const NOT_HELD: u8 = 19;
+    /// The segments are 7, 5, 2, 6, 10, 4 and 8.
+    pub const NO_SUCH_SEGMENT: u8 = 20;
+    /// The buffer is too short for the text.
+    pub const TEXT_TOO_LONG: u8 = 21;
+    /// A value to be written has more bits than its field.
+    pub const VALUE_TOO_WIDE: u8 = 22;
+    /// In neither record.
+    pub const SEGMENT_NOT_NEW: u8 = 23;
+    /// Only as a line of a listing: the input is longer than [`super::LONGEST_INPUT`].
+    pub const INPUT_TOO_LONG: u8 = 24;
+}
+
+/// The fields of a header: the place of each among its values. docs/FORMAT.md, "The record", has each field's bits and unit.
+pub mod field {
+    /// 1: the time is the station clock's.
+    pub const CLOCK_ORIGIN: usize = 0;
+    pub const SESSION_START: usize = 1;
+    pub const COPY_ERROR: usize = 2;
+    /// 0: samples of 8 bits.
+    pub const CONVERSION: usize = 3;
+    /// 1: none.
+    pub const COMPRESSION: usize = 4;
+    pub const TAPE_NUMBER: usize = 5;
+    pub const RECORD_NUMBER: usize = 6;
+    /// Of the whole record, in words of two bytes.
+    pub const LENGTH_WORDS: usize = 7;
+    pub const PRIME_FEA: usize = 8;
+    pub const SECONDARY_FEA: usize = 9;
+    pub const SPACECRAFT: usize = 10;
+    pub const SPC: usize = 11;
+    /// Of the century.
+    pub const YEAR: usize = 12;
+    /// Of the year, from 1.
+    pub const DAY: usize = 13;
+    /// Milliseconds of the day, of the first sample.
+    pub const TIME_TAG_MS: usize = 14;
+    /// The predict set's first byte of ten.
+    pub const PREDICT_0: usize = 15;
+    pub const PREDICT_1: usize = 16;
+    pub const PREDICT_2: usize = 17;
+    pub const PREDICT_3: usize = 18;
+    pub const PREDICT_4: usize = 19;
+    pub const PREDICT_5: usize = 20;
+    pub const PREDICT_6: usize = 21;
+    pub const PREDICT_7: usize = 22;
+    pub const PREDICT_8: usize = 23;
+    pub const PREDICT_9: usize = 24;
+    pub const STATUS: usize = 25;
+    /// Microhertz.
+    pub const READBACK_UHZ: usize = 26;
+    pub const READBACK_TAG_MS: usize = 27;
+    /// Microhertz.
+    pub const CALCULATED_UHZ: usize = 28;
+    pub const UPDATE_TAG_MS: usize = 29;
+    /// [`super::frequency_rate`] gives the rate of these digits, the power and the sign.
+    pub const FREQUENCY_RATE_DIGITS: usize = 30;
+    pub const FREQUENCY_RATE_POWER: usize = 31;
+    /// 1 is plus.
+    pub const FREQUENCY_RATE_SIGN: usize = 32;
+    /// Counts of 1/256 cycle.
+    pub const PHASE_1: usize = 33;
+    pub const PHASE_2: usize = 34;
+    pub const SELECTOR_1: usize = 35;
+    pub const SELECTOR_2: usize = 36;
+    pub const SELECTOR_3: usize = 37;
+    pub const SELECTOR_4: usize = 38;
+    pub const COUNTER_TAG_MS: usize = 39;
+    pub const FILTER: usize = 40;
+    /// Samples a second in each channel.
+    pub const SAMPLE_RATE_HZ: usize = 41;
+    pub const SYNC_WORD: usize = 42;
+    pub const WORD_39: usize = 43;
+    pub const REGISTER_1: usize = 44;
+    pub const REGISTER_2: usize = 45;
+}
+
+/// The structs of c/odr.h, which cross by value.
+macro_rules! structs {
+    ($($(#[$said:meta])* $name:ident { $($(#[$each:meta])* $member:ident: $kind:ty),* $(,)? })*) => {$(
+        $(#[$said])*
+        #[repr(C)]
+        #[derive(Clone, Copy, Debug, Default, PartialEq)]
+        pub struct $name { $($(#[$each])* pub $member: $kind),* }
+    )*};
+}
+structs! {
+    /// In units of 0.00001 Hz/s.
+    FrequencyRateAnswer { refusal: u8, units: i64 }
+    /// The samples that each channel has in a record, the records of a second, the microseconds from one sample to the next.
+    SampleRateAnswer { refusal: u8, samples: u64, records: u64, interval_us: u64 }
+    /// Microseconds of the day.
+    TimeAnswer { refusal: u8, microseconds: u64 }
+    /// The two phases in cycles.
+    PhasesAnswer { refusal: u8, first: f64, second: f64 }
+    /// Of the samples of a channel.
+    Total { sum: i64, squares: u64, least: i8, greatest: i8 }
+    /// Of channels 1 to 4 of a record.
+    TotalsAnswer { refusal: u8, channels: [Total; 4] }
+    /// A record from `start` up to `end`, which is also the next place, where `answer` is 0; else both are 0.
+    StepAnswer { answer: u8, start: usize, end: usize }
+    /// An index's limits and the values of its reel: what [`open`] gave, for every later call.
+    Opening {
+        first_second: u64, second_count: u64, highest_number: u64,
+        sample_rate_hz: u64, tape_number: u64, year: u64, day: u64, spacecraft: u64, spc: u64,
+    }
+    OpenAnswer { refusal: u8, opening: Opening }
+    /// A second's records, those with clock origin, those with copy error, the totals of each channel, and the verdict.
+    SecondAnswer { refusal: u8, records: u32, origins: u32, errors: u32, channels: [Total; 4], kept: bool }
+    Means { mean: f64, mean_square: f64 }
+    /// Of channels 1 to 4 of a second.
+    MeansAnswer { refusal: u8, channels: [Means; 4] }
+    ConsistencyAnswer { refusal: u8, consistent: bool }
+    /// The bytes of the text that was written.
+    TextAnswer { refusal: u8, length: usize }
+}
+
+/// A monitor segment: its bytes are the first `length` ones, and 0 follows.
+#[repr(C)]
+#[derive(Clone, Copy, Debug, PartialEq)]
+pub struct SegmentAnswer {
+    pub refusal: u8,
+    pub length: usize,
+    pub bytes: [u8; LONGEST_SEGMENT],
+}
+
+impl Default for SegmentAnswer {
+    fn default() -> Self {
+        SegmentAnswer { refusal: 0, length: 0, bytes: [0; LONGEST_SEGMENT] }
+    }
+}
+
+extern "C" {
+    fn odr_refusal(record: *const u8, record_len: usize) -> u8;
+    fn odr_read_header(record: *const u8, record_len: usize, header: *mut [u64; HEADER_VALUES]) -> u8;
+    fn odr_write_header(record: *mut u8, record_len: usize, header: *const [u64; HEADER_VALUES]) -> u8;
+    fn odr_frequency_rate(record: *const u8, record_len: usize) -> FrequencyRateAnswer;
+    fn odr_sample_rate(hz: u64) -> SampleRateAnswer;
+    fn odr_read_samples(
+        record: *const u8, record_len: usize, one: *mut i8, one_len: usize, two: *mut i8, two_len: usize,
+        three: *mut i8, three_len: usize, four: *mut i8, four_len: usize,
+    ) -> u8;
+    fn odr_write_samples(
+        record: *mut u8, record_len: usize, one: *const i8, one_len: usize, two: *const i8, two_len: usize,
+        three: *const i8, three_len: usize, four: *const i8, four_len: usize,
+    ) -> u8;
+    fn odr_sample_time(record: *const u8, record_len: usize, k: u64) -> TimeAnswer;
+    fn odr_phases(record: *const u8, record_len: usize) -> PhasesAnswer;
+    fn odr_totals(record: *const u8, record_len: usize) -> TotalsAnswer;
+    fn odr_segment(
+        this_record: *const u8, this_len: usize, earlier: *const u8, earlier_len: usize, number: u64,
+    ) -> SegmentAnswer;
+    fn odr_step(reel: *const u8, reel_len: usize, place: usize) -> StepAnswer;
+    fn odr_open(
+        pattern: *const u8, pattern_len: usize, first_second: u64, second_count: u64, highest_number: u64,
+        rows: *mut u32, rows_len: usize, seconds: *mut u32, seconds_len: usize,
+    ) -> OpenAnswer;
+    fn odr_insert(
+        opening: Opening, record: *const u8, record_len: usize,
+        rows: *mut u32, rows_len: usize, seconds: *mut u32, seconds_len: usize,
+    ) -> u8;
+    fn odr_remove(
+        opening: Opening, number: u64, rows: *mut u32, rows_len: usize, seconds: *mut u32, seconds_len: usize,
+    ) -> u8;
+    fn odr_query(
+        opening: Opening, second: u64, rows: *const u32, rows_len: usize, seconds: *const u32, seconds_len: usize,
+    ) -> SecondAnswer;
+    fn odr_second_means(
+        opening: Opening, second: u64, rows: *const u32, rows_len: usize, seconds: *const u32, seconds_len: usize,
+    ) -> MeansAnswer;
+    fn odr_is_consistent(
+        opening: Opening, rows: *const u32, rows_len: usize, seconds: *const u32, seconds_len: usize,
+    ) -> ConsistencyAnswer;
+    fn odr_record_line(record: *const u8, record_len: usize, text: *mut u8, text_len: usize) -> TextAnswer;
+    fn odr_list(input: *const u8, input_len: usize, text: *mut u8, text_len: usize) -> TextAnswer;
+}
+
+// Each wrapper passes pointers and lengths of slices that live through the call; the mutable ones overlap nothing.
+
+/// 1 to 11, or 0 where the bytes are an accepted record.
+pub fn refusal(record: &[u8]) -> u8 {
+    unsafe { odr_refusal(record.as_ptr(), record.len()) }
+}
+
+/// The header of a record, each value at its place ([`field`]). 1 to 11, and then the header lent stays as it was.
+pub fn read_header(record: &[u8], header: &mut [u64; HEADER_VALUES]) -> u8 {
+    unsafe { odr_read_header(record.as_ptr(), record.len(), header) }
+}
+
+/// The values go into the header of the record, whose other bits stay; of what the record held before only its length is judged.
+/// 1 to 11 of the values, 22.
+pub fn write_header(record: &mut [u8], header: &[u64; HEADER_VALUES]) -> u8 {
+    unsafe { odr_write_header(record.as_mut_ptr(), record.len(), header) }
+}
+
+/// The frequency rate. 1 to 11.
+pub fn frequency_rate(record: &[u8]) -> FrequencyRateAnswer {
+    unsafe { odr_frequency_rate(record.as_ptr(), record.len()) }
+}
+
+/// What follows from a sample rate in samples a second. 5.
+pub fn sample_rate(hz: u64) -> SampleRateAnswer {
+    unsafe { odr_sample_rate(hz) }
+}
+
+/// The samples of channels 1 to 4, to the start of each buffer. 1 to 11, 12 where a buffer holds fewer than the record's samples.
+pub fn read_samples(record: &[u8], [one, two, three, four]: [&mut [i8]; 4]) -> u8 {
+    unsafe {
+        odr_read_samples(
+            record.as_ptr(), record.len(), one.as_mut_ptr(), one.len(), two.as_mut_ptr(), two.len(),
+            three.as_mut_ptr(), three.len(), four.as_mut_ptr(), four.len(),
+        )
+    }
+}
+
+/// Samples of channels 1 to 4 into the record, whose other bytes stay. 1 to 11, 12 where a buffer has fewer than the record.
+pub fn write_samples(record: &mut [u8], [one, two, three, four]: [&[i8]; 4]) -> u8 {
+    unsafe {
+        odr_write_samples(
+            record.as_mut_ptr(), record.len(), one.as_ptr(), one.len(), two.as_ptr(), two.len(),
+            three.as_ptr(), three.len(), four.as_ptr(), four.len(),
+        )
+    }
+}
+
+/// The time of sample k, counted from 0. 1 to 11, 12 where the record has no sample k.
+pub fn sample_time(record: &[u8], k: u64) -> TimeAnswer {
+    unsafe { odr_sample_time(record.as_ptr(), record.len(), k) }
+}
+
+/// The two phases in cycles, exactly. 1 to 11.
+pub fn phases(record: &[u8]) -> PhasesAnswer {
+    unsafe { odr_phases(record.as_ptr(), record.len()) }
+}
+
+/// The totals of a record's samples. 1 to 11.
+pub fn totals(record: &[u8]) -> TotalsAnswer {
+    unsafe { odr_totals(record.as_ptr(), record.len()) }
+}
+
+/// A monitor segment, from this record if it is new there, else from the earlier one. 1 to 11 of this record, then of the earlier
+/// one, 20, 23.
+pub fn segment(this: &[u8], earlier: &[u8], number: u64) -> SegmentAnswer {
+    unsafe { odr_segment(this.as_ptr(), this.len(), earlier.as_ptr(), earlier.len(), number) }
+}
+
+/// What stands at a place of a reel: a record, or [`FINISHED`] at its end and past it, or 1 to 11.
+pub fn step(reel: &[u8], place: usize) -> StepAnswer {
+    unsafe { odr_step(reel.as_ptr(), reel.len(), place) }
+}
+
+/// Opens an index for the reel of the pattern, a record, which is not inserted. `limits` are the first second of the window, the
+/// count of its seconds, and the highest record number. The cells of the index become 0: [`CELLS`] in `rows` for each record
+/// number, and in `seconds` for each second of the window. 1 to 11 of the pattern, 13, 14.
+pub fn open(pattern: &[u8], limits: [u64; 3], rows: &mut [u32], seconds: &mut [u32]) -> OpenAnswer {
+    let [first, count, highest] = limits;
+    unsafe {
+        odr_open(
+            pattern.as_ptr(), pattern.len(), first, count, highest,
+            rows.as_mut_ptr(), rows.len(), seconds.as_mut_ptr(), seconds.len(),
+        )
+    }
+}
+
+/// Inserts a record under its number, in place of any there. 1 to 11, 13 to 18.
+pub fn insert(opening: Opening, record: &[u8], rows: &mut [u32], seconds: &mut [u32]) -> u8 {
+    unsafe {
+        odr_insert(
+            opening, record.as_ptr(), record.len(), rows.as_mut_ptr(), rows.len(), seconds.as_mut_ptr(), seconds.len(),
+        )
+    }
+}
+
+/// Removes the record of a number. 13, 14, 16, 19.
+pub fn remove(opening: Opening, number: u64, rows: &mut [u32], seconds: &mut [u32]) -> u8 {
+    unsafe { odr_remove(opening, number, rows.as_mut_ptr(), rows.len(), seconds.as_mut_ptr(), seconds.len()) }
+}
+
+/// A second's totals and verdict; a second of no records has 0 throughout. 13, 14, 17.
+pub fn query(opening: Opening, second: u64, rows: &[u32], seconds: &[u32]) -> SecondAnswer {
+    unsafe { odr_query(opening, second, rows.as_ptr(), rows.len(), seconds.as_ptr(), seconds.len()) }
+}
+
+/// Mean and mean square of each channel of a second; both are 0 for no samples. 13, 14, 17.
+pub fn second_means(opening: Opening, second: u64, rows: &[u32], seconds: &[u32]) -> MeansAnswer {
+    unsafe { odr_second_means(opening, second, rows.as_ptr(), rows.len(), seconds.as_ptr(), seconds.len()) }
+}
+
+/// The consistency test: whether no held row is of a second outside the window and the second cells are those that the rows give.
+/// 13, 14.
+pub fn is_consistent(opening: Opening, rows: &[u32], seconds: &[u32]) -> ConsistencyAnswer {
+    unsafe { odr_is_consistent(opening, rows.as_ptr(), rows.len(), seconds.as_ptr(), seconds.len()) }
+}
+
+/// The listing's line of a record. 1 to 11, 21.
+pub fn record_line(record: &[u8], text: &mut [u8]) -> TextAnswer {
+    unsafe { odr_record_line(record.as_ptr(), record.len(), text.as_mut_ptr(), text.len()) }
+}
+
+/// The whole listing of a reel; 24 and any other refusal of the reel is a line of it. 21.
+pub fn list(input: &[u8], text: &mut [u8]) -> TextAnswer {
+    unsafe { odr_list(input.as_ptr(), input.len(), text.as_mut_ptr(), text.len()) }
+}
