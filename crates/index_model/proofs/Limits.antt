@@ -9,7 +9,8 @@ use lib.Dec.{T, eqb, ltb, leb, leb→le, ltb→lt}
 use lib.ListN.{length}
 use borrow.Author.Tests.{eqb-true, eqb-false, ltb-false, le-ltb, not-false}
 use Rattle.lists.proofs.Truth.{left, right, held, or-false}
-use Rattle.header.specs.Header.{headerOf}
+use Rattle.fields.specs.Field.{valueOf}
+use Rattle.header.specs.Rows.{sampleRate}
 use Rattle.answers.specs.Refusal.{_when_}
 use Rattle.answers.proofs.Refusals.{none-applies}
 use Rattle.sample_rates.specs.declared.SampleRate.{SampleRate}
@@ -43,10 +44,10 @@ module _ (o : Opening) where
       let z : n ≡ 0 → ⊥ = eqb-false n 0 (t .0) in
       (omega (arith, z), ltb-false R n (t .1))
 
-  pub same-rate : (b : List ℕ) → otherReel o b ≡ false → headerOf b .«sample_rate_hz» ≡ o .«sample_rate_hz»
+  pub same-rate : (b : List ℕ) → otherReel o b ≡ false → valueOf sampleRate b ≡ o .«sample_rate_hz»
   unfolding otherReel
   same-rate b e =
-      eqb-true (headerOf b .«sample_rate_hz») (o .«sample_rate_hz»)
+      eqb-true (valueOf sampleRate b) (o .«sample_rate_hz»)
       (not-false _ (or-false _ _ (or-false _ _ (or-false _ _ (or-false _ _ (or-false _ _ e .0) .0) .0) .0) .0))
 
   module _ (c : Buffers) where

@@ -9,10 +9,13 @@ use lib.ListN.{getD, length}
 use Rattle.lists.proofs.Fill.{over-low, length-over}
 use Rattle.lists.proofs.Truth.{or-false}
 use Rattle.fields.specs.Table.{allDigitsGood}
-use Rattle.header.specs.Format.{fields}
-use Rattle.header.specs.Header.{headerOf}
+use Rattle.fields.specs.Field.{valueOf}
+use Rattle.header.specs.Format.{fields1985}
+use Rattle.header.specs.Rows.{tapeNumber, recordNumber}
+use Rattle.checks.specs.declared.Judged.{Judged}
+use Rattle.checks.specs.Checks.{checks, judgedOf}
 use Rattle.answers.specs.Answer.{Answer}
-use Rattle.record.specs.Record.{checks, recordRefusal}
+use Rattle.record.specs.Record.{recordRefusal}
 use Rattle.answers.specs.Refusal.{_when_, first}
 use Rattle.answers.proofs.Refusals.{noCheck, none-applies, then-zero, unless-none, cond-none}
 use Rattle.index_model.specs.declared.Opening.{Opening}
@@ -42,10 +45,13 @@ regular-empty o =
 held-fine : (pattern : List ℕ) (F C R : ℕ) → recordRefusal pattern ≡ 0 → heldWrong (openingOf pattern F C R) ≡ false
 unfolding recordRefusal heldWrong
 held-fine pattern F C R e =
-    λ t. at 4 t || or-false (eqb (headerOf pattern .«tape_number») 0) (eqb (headerOf pattern .«record_number») 0) (at 6) .0 t || at 7 t
+    λ t. at 4 t || or-false (eqb (valueOf tapeNumber pattern) 0) (eqb (valueOf recordNumber pattern) 0) (at 6) .0 t || at 7 t
   where
-    at : (k : ℕ) → getD (checks (length pattern) (headerOf pattern) (allDigitsGood fields pattern)) k noCheck .applies ≡ false
-    at k = none-applies (checks (length pattern) (headerOf pattern) (allDigitsGood fields pattern)) k tt e
+    judged : Judged
+    judged = judgedOf (length pattern) (λ f. valueOf f pattern) (allDigitsGood fields1985 pattern)
+
+    at : (k : ℕ) → getD (checks judged) k noCheck .applies ≡ false
+    at k = none-applies (checks judged) k tt e
 
 module _ (pattern : List ℕ) (F C R : ℕ) (c : Buffers) (e : openRefusal pattern F C R c ≡ 0) where
   abbrev o : Opening

@@ -9,7 +9,8 @@ use native.Mathlib.Omega.{arith}
 use lib.Dec.{eqb}
 use lib.ListN.{getD}
 use borrow.Author.Tests.{eqb-true, eqb-false, ne-eqb}
-use Rattle.index_model.specs.Records.{mostSamples, secondOf}
+use Rattle.sample_rates.specs.Rates.{mostSamples}
+use Rattle.index_model.specs.Records.{secondOf}
 use Rattle.index_model.specs.Cells.{width, sampleOffset, cell, rowOf, flag, isGreatest, cellLimit, rowWithin, mergeIf, cellFrom}
 use Rattle.index_model.specs.Ledger.{Ledger, withEntry}
 use Rattle.index_model.specs.History.{isOf}

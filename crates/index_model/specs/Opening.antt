@@ -6,9 +6,11 @@ use mathlib.Core.List.{List, [], _∷_}
 use lib.Dec.{eqb, ltb, leb}
 use lib.ListN.{length}
 use Rattle.lists.specs.Fill.{over}
-use Rattle.header.specs.Header.{headerOf}
+use Rattle.fields.specs.Field.{valueOf}
+use Rattle.header.specs.Rows.{tapeNumber, spacecraft, spc, year, day, sampleRate}
 use Rattle.sample_rates.specs.Rates.{sampleRateOf, isNoRate}
 use Rattle.answers.specs.Answer.{Answer, unless}
+use Rattle.checks.specs.Checks.{wrongDate}
 use Rattle.record.specs.Record.{recordRefusal}
 use Rattle.answers.specs.Refusal.{_when_, first, _then_}
 use Rattle.index_model.specs.declared.Opening.{Opening}
@@ -34,10 +36,7 @@ limitsWrong o =
 
 -- a held rate, tape, year or day that 5, 7 or 8 refuses
 unfoldable pub heldWrong : Opening → Bool
-heldWrong o =
-    isNoRate (sampleRateOf (o .«sample_rate_hz»))
-    || eqb (o .«tape_number») 0
-    || (ltb 99 (o .year) || (eqb (o .day) 0 || ltb 366 (o .day)))
+heldWrong o = isNoRate (sampleRateOf (o .«sample_rate_hz»)) || eqb (o .«tape_number») 0 || wrongDate (o .year) (o .day)
 
 -- fewer row cells than those of R rows, or fewer second cells than those of C seconds
 unfoldable pub tooSmall : Opening → Buffers → Bool
@@ -52,12 +51,12 @@ openingRefusal o c = first (13 when (limitsWrong o || heldWrong o) ∷ 14 when t
 -- a record of another reel: rate, year, day, tape, spacecraft or SPC differ from the pattern's
 unfoldable pub otherReel : Opening → List ℕ → Bool
 otherReel o b =
-    not (eqb (headerOf b .«sample_rate_hz») (o .«sample_rate_hz»))
-    || not (eqb (headerOf b .year) (o .year))
-    || not (eqb (headerOf b .day) (o .day))
-    || not (eqb (headerOf b .«tape_number») (o .«tape_number»))
-    || not (eqb (headerOf b .spacecraft) (o .spacecraft))
-    || not (eqb (headerOf b .spc) (o .spc))
+    not (eqb (valueOf sampleRate b) (o .«sample_rate_hz»))
+    || not (eqb (valueOf year b) (o .year))
+    || not (eqb (valueOf day b) (o .day))
+    || not (eqb (valueOf tapeNumber b) (o .«tape_number»))
+    || not (eqb (valueOf spacecraft b) (o .spacecraft))
+    || not (eqb (valueOf spc b) (o .spc))
 
 -- a record number outside 1 to R
 unfoldable pub isOutside : Opening → ℕ → Bool
@@ -80,12 +79,12 @@ openingOf pattern F C R =
       «first_second» = F;
       «second_count» = C;
       «highest_number» = R;
-      «sample_rate_hz» = headerOf pattern .«sample_rate_hz»;
-      «tape_number» = headerOf pattern .«tape_number»;
-      year = headerOf pattern .year;
-      day = headerOf pattern .day;
-      spacecraft = headerOf pattern .spacecraft;
-      spc = headerOf pattern .spc;
+      «sample_rate_hz» = valueOf sampleRate pattern;
+      «tape_number» = valueOf tapeNumber pattern;
+      year = valueOf year pattern;
+      day = valueOf day pattern;
+      spacecraft = valueOf spacecraft pattern;
+      spc = valueOf spc pattern;
     }
 
 -- beside a refusal: 0 throughout

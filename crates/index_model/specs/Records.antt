@@ -7,11 +7,12 @@ use lib.Dec.{eqb}
 use lib.IntN.{ℤ}
 use lib.ListN.{length}
 use Rattle.channels.specs.Sample.{samplesOf}
-use Rattle.header.specs.Header.{headerOf}
+use Rattle.fields.specs.Field.{valueOf}
+use Rattle.header.specs.Rows.{clockOrigin, copyError, recordNumber, timeTag}
 use Rattle.record.specs.Stretch.{sampleCount, stretchOf}
 
 abbrev pub numberOf : List ℕ → ℕ
-numberOf b = headerOf b .«record_number»
+numberOf b = valueOf recordNumber b
 
 -- the milliseconds of a second
 abbrev pub secondMs : ℕ
@@ -19,17 +20,13 @@ secondMs = 1000
 
 -- its tag in seconds, rounded down
 unfoldable pub secondOf : List ℕ → ℕ
-secondOf b = headerOf b .«time_tag_ms» / secondMs
+secondOf b = valueOf timeTag b / secondMs
 
 abbrev pub hasOrigin : List ℕ → Bool
-hasOrigin b = eqb (headerOf b .«clock_origin») 1
+hasOrigin b = eqb (valueOf clockOrigin b) 1
 
 abbrev pub hasError : List ℕ → Bool
-hasError b = eqb (headerOf b .«copy_error») 1
-
--- the most samples that a record has of a channel
-abbrev pub mostSamples : ℕ
-mostSamples = 1000
+hasError b = eqb (valueOf copyError b) 1
 
 -- the samples of each channel that any bytes hold; those of an accepted record are as many as its rate says
 abbrev pub samplesHeld : List ℕ → ℕ
