@@ -55,7 +55,8 @@ fn held_wrong(o: Opening) -> bool
     ensures { λ r. ⌜ r ≡ heldWrong o ⌝ }
 {
     let rate = sample_rates::sample_rate_of(o.sample_rate_hz);
-    (rate.hz == 0) | (o.tape_number == 0) | ((o.year > 99) | ((o.day == 0) | (o.day > 366)))
+    let date = checks::wrong_date(o.year, o.day);
+    (rate.hz == 0) | (o.tape_number == 0) | date
 }
 
 // Whether so many cells are fewer than those of so many rows or seconds; no product, so that no count can wrap.
@@ -75,40 +76,32 @@ fn too_small(o: Opening, rows: &[u32], seconds: &[u32]) -> bool
     few_rows | few_seconds
 }
 
-// 13 where the limits are wrong, else 14 where the buffers are too small, else 0.
-fn limits_refusal(wrong: bool, small: bool) -> u8
-    ensures { λ r. ⌜ r ≡ first (13 when wrong ∷ 14 when small ∷ []) ⌝ }
-{
-    if wrong {
-        return 13;
-    }
-    if small {
-        return 14;
-    }
-    0
-}
-
 // The refusal that every call after opening gives for the value that opening returned and for the lent buffers.
 pub fn opening_refusal(o: Opening, rows: &[u32], seconds: &[u32]) -> u8
     ensures { λ r. ⌜ r ≡ openingRefusal o (lent (now (rows .entry)) (now (seconds .entry))) ⌝ }
 {
     let limits = limits_wrong(o);
     let held = held_wrong(o);
-    let small = too_small(o, rows, seconds);
-    limits_refusal(limits | held, small)
+    let small = answers::check(14, too_small(o, rows, seconds), 0);
+    answers::check(13, limits | held, small)
 }
 
 // Whether a record is of another reel.
 pub fn other_reel(o: Opening, bytes: &[u8]) -> bool
     ensures { λ r. ⌜ r ≡ otherReel o (now (bytes .entry)) ⌝ }
 {
-    let h = header::read_fields(bytes);
-    (h.sample_rate_hz != o.sample_rate_hz)
-        | (h.year != o.year)
-        | (h.day != o.day)
-        | (h.tape_number != o.tape_number)
-        | (h.spacecraft != o.spacecraft)
-        | (h.spc != o.spc)
+    let sample_rate = fields::read_field(bytes, header::SAMPLE_RATE);
+    let year = fields::read_field(bytes, header::YEAR);
+    let day = fields::read_field(bytes, header::DAY);
+    let tape_number = fields::read_field(bytes, header::TAPE_NUMBER);
+    let spacecraft = fields::read_field(bytes, header::SPACECRAFT);
+    let spc = fields::read_field(bytes, header::SPC);
+    (sample_rate != o.sample_rate_hz)
+        | (year != o.year)
+        | (day != o.day)
+        | (tape_number != o.tape_number)
+        | (spacecraft != o.spacecraft)
+        | (spc != o.spc)
 }
 
 // Whether a record number is outside 1 to R.
@@ -150,17 +143,16 @@ pub fn full_count(o: Opening) -> u64
 fn opening_of(pattern: &[u8], first_second: u64, second_count: u64, highest_number: u64) -> Opening
     ensures { λ r. ⌜ r ≡ openingOf (now (pattern .entry)) «first_second» «second_count» «highest_number» ⌝ }
 {
-    let h = header::read_fields(pattern);
     Opening {
         first_second,
         second_count,
         highest_number,
-        sample_rate_hz: h.sample_rate_hz,
-        tape_number: h.tape_number,
-        year: h.year,
-        day: h.day,
-        spacecraft: h.spacecraft,
-        spc: h.spc,
+        sample_rate_hz: fields::read_field(pattern, header::SAMPLE_RATE),
+        tape_number: fields::read_field(pattern, header::TAPE_NUMBER),
+        year: fields::read_field(pattern, header::YEAR),
+        day: fields::read_field(pattern, header::DAY),
+        spacecraft: fields::read_field(pattern, header::SPACECRAFT),
+        spc: fields::read_field(pattern, header::SPC),
     }
 }
 
@@ -168,7 +160,8 @@ fn opening_of(pattern: &[u8], first_second: u64, second_count: u64, highest_numb
 fn judge(pattern: &[u8], o: Opening, rows: &[u32], seconds: &[u32]) -> u8
     ensures { λ r. ⌜ r ≡ recordRefusal (now (pattern .entry)) then first (13 when limitsWrong o ∷ 14 when tooSmall o (lent (now (rows .entry)) (now (seconds .entry))) ∷ []) ⌝ }
 {
-    let limits = limits_refusal(limits_wrong(o), too_small(o, rows, seconds));
+    let small = answers::check(14, too_small(o, rows, seconds), 0);
+    let limits = answers::check(13, limits_wrong(o), small);
     answers::first_refusal(record::refusal_of(pattern), limits)
 }
 
