@@ -20,9 +20,9 @@ use Rattle.totals.specs.Total.{totalOf}
 use Rattle.totals.proofs.Samples.{Bytes, samples-bytes}
 use Rattle.totals.proofs.Sums.{squares-bound}
 use Rattle.index_model.specs.declared.Opening.{Opening}
-use Rattle.index_model.specs.Records.{secondOf, hasOrigin, hasError, samplesHeld, channelSamples}
+use Rattle.index_model.specs.Records.{secondOf, hasOrigin, hasError, channelSamples}
 use Rattle.record.specs.Stretch.{recordRate, sampleCount, stretchOf}
-use Rattle.index_model.specs.Cells.{width, channelCell, channelCells, flag, rowOf}
+use Rattle.index_model.specs.Cells.{width, channelCell, samplesIn, channelCells, flag, rowOf}
 use Rattle.index_model.specs.Opening.{inWindow}
 use Rattle.index_model.specs.Ledger.{Ledger}
 use Rattle.index_model.proofs.Rows.{row-length, row-records, row-origin, row-error, row-second, row-channel}
@@ -69,7 +69,7 @@ module _ (b : List ℕ) (accepted : recordRefusal b ≡ 0) where
   count-some = record-facts b accepted .line .some
 
   -- its bytes hold them all
-  held-all : samplesHeld b ≡ sampleCount b
+  held-all : samplesIn (stretchOf b) ≡ sampleCount b
   unfolding stretchOf recordRate
   held-all = simp (length-take, length-drop) (omega (arith, stretch-inside b accepted))
 

@@ -6,16 +6,16 @@
 --   1 records with clock origin 1       4c + 2      128 less the least sample
 --   2 records with copy error 1         4c + 3      the greatest sample plus 129
 --   3 the second
-use Prim.Native.Nat.{ℕ, zero, suc, _+_, _*_, _%_, max}
+use Prim.Native.Nat.{ℕ, zero, suc, _+_, _*_, _/_, _%_, max}
 use mathlib.Core.Bool.{Bool, true, false, cond, not, _&&_}
 use mathlib.Core.List.{List, [], _∷_, _++_}
 use lib.Dec.{eqb, ltb}
 use lib.IntN.{ℤ, pos, negsuc, _+ℤ_, _-ℤ_}
-use lib.ListN.{getD, take, drop}
+use lib.ListN.{length, getD, take, drop}
 use Rattle.lists.specs.Fill.{tab}
 use Rattle.totals.specs.declared.Total.{Total}
 use Rattle.totals.specs.Total.{totalsOf}
-use Rattle.index_model.specs.Records.{secondOf, hasOrigin, hasError, samplesHeld}
+use Rattle.index_model.specs.Records.{secondOf, hasOrigin, hasError}
 use Rattle.record.specs.Stretch.{stretchOf}
 
 -- cells in a row, and in a second
@@ -67,10 +67,16 @@ allChannelCells n (t ∷ ts) = channelCells n t ++ allChannelCells n ts
 abbrev pub flag : Bool → ℕ
 flag b = cond b 1 0
 
+-- the samples of each channel that a stretch holds, and the cells of the four channels; the stretch of an accepted record holds as
+-- many as its rate says
+abbrev pub samplesIn : List ℕ → ℕ
+samplesIn stretch = length stretch / 4
+
+abbrev pub stretchCells : List ℕ → List ℕ
+stretchCells stretch = allChannelCells (samplesIn stretch) (totalsOf stretch (samplesIn stretch))
+
 unfoldable pub rowOf : List ℕ → List ℕ
-rowOf b =
-    1 ∷ flag (hasOrigin b) ∷ flag (hasError b) ∷ secondOf b
-    ∷ allChannelCells (samplesHeld b) (totalsOf (stretchOf b) (samplesHeld b))
+rowOf b = 1 ∷ flag (hasOrigin b) ∷ flag (hasError b) ∷ secondOf b ∷ stretchCells (stretchOf b)
 
 -- the row of a number that is not held
 abbrev pub noRow : List ℕ

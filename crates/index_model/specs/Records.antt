@@ -5,7 +5,6 @@ use mathlib.Core.Bool.{Bool}
 use mathlib.Core.List.{List}
 use lib.Dec.{eqb}
 use lib.IntN.{ℤ}
-use lib.ListN.{length}
 use Rattle.channels.specs.Sample.{samplesOf}
 use Rattle.fields.specs.Field.{valueOf}
 use Rattle.header.specs.Rows.{clockOrigin, copyError, recordNumber, timeTag}
@@ -27,10 +26,6 @@ hasOrigin b = eqb (valueOf clockOrigin b) 1
 
 abbrev pub hasError : List ℕ → Bool
 hasError b = eqb (valueOf copyError b) 1
-
--- the samples of each channel that any bytes hold; those of an accepted record are as many as its rate says
-abbrev pub samplesHeld : List ℕ → ℕ
-samplesHeld b = length (stretchOf b) / 4
 
 -- its samples of a channel (1 to 4)
 unfoldable pub channelSamples : ℕ → List ℕ → List ℤ
