@@ -97,7 +97,7 @@ module _ (o : Opening) (fine : limitsWrong o || heldWrong o ≡ false) (L : Ledg
   pub others-count : (n s : ℕ) → 0 < n → n ≤ R → length (recordsOf (withEntry L n none) s R) ≡ cellTotal (withEntry L n none) s 0 R
   others-count n s p q = sym (measured (measures-records o) (withEntry L n none) (regular-without o L regular n p q .sound) s R)
 
-  full-is : (n s : ℕ) → isOutside o n ≡ false → not (inWindow o s) ≡ false → isFull o n s c ≡ ledgerFull o L n s
+  full-is : (n s : ℕ) → isOutside o n ≡ false → not (inWindow o s) ≡ false → isFull o (n - 1) s c ≡ ledgerFull o L n s
   unfolding isFull ledgerFull
   full-is n s e e' =
       (λ t. leb (fullCount o + own t) (count t))
@@ -128,7 +128,7 @@ module _ (o : Opening) (fine : limitsWrong o || heldWrong o ≡ false) (L : Ledg
       (by-tests (isOutside o (numberOf b)) refl (not (inWindow o (secondOf b))) refl))
     where
       by-tests : (t : Bool) → isOutside o (numberOf b) ≡ t → (u : Bool) → not (inWindow o (secondOf b)) ≡ u
-          → first (16 when t ∷ 17 when u ∷ 18 when isFull o (numberOf b) (secondOf b) c ∷ [])
+          → first (16 when t ∷ 17 when u ∷ 18 when isFull o (numberOf b - 1) (secondOf b) c ∷ [])
           ≡ first (16 when t ∷ 17 when u ∷ 18 when ledgerFull o L (numberOf b) (secondOf b) ∷ [])
       by-tests true et u eu = refl
       by-tests false et true eu = refl

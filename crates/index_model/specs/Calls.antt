@@ -56,9 +56,9 @@ rowRemoved o i c = record { rows = withBlock (c .rows) i noRow; seconds = second
 
 -- ## put
 
--- second s has L records of other numbers: the row of number n itself does not count where it is of that second
+-- second s has L records beside row i: that row itself does not count where it is of that second
 unfoldable pub isFull : Opening → ℕ → ℕ → Buffers → Bool
-isFull o n s c = leb (fullCount o + flag (rowWithin (c .rows) (n - 1) s)) (cell (c .seconds) (placeOf o s) 0)
+isFull o i s c = leb (fullCount o + flag (rowWithin (c .rows) i s)) (cell (c .seconds) (placeOf o s) 0)
 
 module _ (o : Opening) (b : List ℕ) (c : Buffers) where
   unfoldable pub insertRefusal : ℕ
@@ -69,7 +69,7 @@ module _ (o : Opening) (b : List ℕ) (c : Buffers) where
       (15 when otherReel o b
       ∷ 16 when isOutside o (numberOf b)
       ∷ 17 when not (inWindow o (secondOf b))
-      ∷ 18 when isFull o (numberOf b) (secondOf b) c
+      ∷ 18 when isFull o (numberOf b - 1) (secondOf b) c
       ∷ [])
 
   unfoldable pub inserted : Buffers

@@ -14,10 +14,9 @@ use mir.Syntax.{w64}
 use mir.Val.{SFits, toZ, ofZ}
 use mir.ValLaws.{toZ-pos, toZ-ofZ}
 use Rattle.sample_rates.specs.declared.SampleRate.{SampleRate}
-use Rattle.sample_rates.specs.Rates.{sampleRateOf, samplesPerRecord}
+use Rattle.sample_rates.specs.Rates.{sampleRateOf, samplesPerRecord, mostSamples}
 use Rattle.sample_rates.proofs.Lines.{rate-line}
 use Rattle.totals.specs.Total.{noTotal}
-use Rattle.index_model.specs.Records.{mostSamples}
 use Rattle.index_model.specs.Cells.{cellLimit, sampleOffset}
 use Rattle.index_model.specs.Calls.{channelShown, totalFrom}
 use Rattle.index_model.proofs.Differences.{minus-sub}

@@ -4,7 +4,7 @@ use mathlib.Core.Bool.{Bool, true, _&&_}
 use mathlib.Core.List.{List}
 use lib.Dec.{eqb}
 use lib.ListN.{getD}
-use Rattle.index_model.specs.Records.{mostSamples}
+use Rattle.sample_rates.specs.Rates.{mostSamples}
 use Rattle.index_model.specs.Cells.{cellLimit}
 
 -- no second has more samples of a channel, whatever its cells hold

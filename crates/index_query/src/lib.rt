@@ -1,8 +1,7 @@
 // Questions to the index about a second, and the test of its cells. FORMAT, "The index of seconds", "Refusal numbers". Every public
 // function here takes any value of an opening and any cells, and changes none; 0 is no refusal.
 ghost use mathlib.Core.Path.{_≡_};
-ghost use mathlib.Core.Bool.{not, _||_};
-ghost use mathlib.Core.List.{[], _∷_};
+ghost use mathlib.Core.Bool.{_||_};
 ghost use Prim.Native.Nat.{_*_, _≤_, _<_};
 ghost use lib.Dec.{eqb};
 ghost use lib.IntN.{pos, natAbs, _-ℤ_};
@@ -10,7 +9,6 @@ ghost use lib.ListN.{getD};
 ghost use Rattle.lists.specs.Fill.{tab};
 ghost use Rattle.sample_rates.specs.Rates.{sampleRateOf, samplesPerRecord};
 ghost use Rattle.answers.specs.Answer.{accepted, refused};
-ghost use Rattle.answers.specs.Refusal.{_when_, first};
 ghost use Rattle.index_model.specs.Second.{noSecond};
 ghost use Rattle.index_model.specs.Cells.{width, channelCell, sampleOffset};
 ghost use Rattle.index_model.specs.Buffers.{lent};
@@ -164,21 +162,11 @@ fn no_second(refusal: u8) -> SecondAnswer
     }
 }
 
-// 17 for a second outside the window, or 0.
-fn window_refusal(o: Opening, second: u64) -> u8
-    ensures { λ r. ⌜ r ≡ first (17 when not (inWindow o second) ∷ []) ⌝ }
-{
-    if index_open::in_window(o, second) {
-        return 0;
-    }
-    17
-}
-
 // The refusal of a question about a second, or 0.
 fn judge(o: Opening, second: u64, rows: &[u32], seconds: &[u32]) -> u8
     ensures { λ r. ⌜ r ≡ queryRefusal o second (lent (now (rows .entry)) (now (seconds .entry))) ⌝ }
 {
-    let outside = window_refusal(o, second);
+    let outside = answers::check(17, !index_open::in_window(o, second), 0);
     answers::first_refusal(index_open::opening_refusal(o, rows, seconds), outside)
 }
 
