@@ -16,7 +16,7 @@ use Rattle.bits.specs.Decimal.{decimalValue, digits, coded}
 use Rattle.bits.proofs.Bits.{getBits-lt, get-set, get-other, set-get, length-setBits, bit-kept}
 use Rattle.bits.proofs.Decimal.{coded-lt, coded-digits, decimal-coded, coded-decimal, decimal-lt}
 use Rattle.fields.specs.declared.Field.{Field}
-use Rattle.fields.specs.Field.{start, width, digitCount, encoded, decoded, valueOf, withValue, digitsGood, decimalFits, binaryFits, Readable, readable}
+use Rattle.fields.specs.Field.{start, width, isDecimal, digitCount, encoded, decoded, valueOf, withValue, digitsGood, decimalFits, binaryFits, Readable, readable}
 
 -- the test gives the facts
 module _ (f : Field) (t : T (readable f)) where
@@ -97,6 +97,13 @@ with-value f b t h g =
     ap (λ (x : ℕ). setBits (start f) (width f) x b)
     (value-code (f .3) (width f) (getBits (start f) (width f) b) (whole-digits f t) (getBits-lt (start f) (width f) b) g)
     ∙ set-get (start f) (width f) b h
+
+-- what a binary field holds has no more bits than the field
+pub value-lt : (f : Field) (b : List ℕ) → isDecimal f ≡ false → valueOf f b < 2 ^ width f
+unfolding valueOf
+value-lt f b e =
+    subst (λ (t : Bool). cond t (decimalValue (digitCount f) (getBits (start f) (width f) b)) (getBits (start f) (width f) b) < 2 ^ width f) (sym e)
+    (getBits-lt (start f) (width f) b)
 
 -- what is read from good digits fits
 pub read-fits : (f : Field) (b : List ℕ) → T (digitsGood f b) → T (decimalFits f (valueOf f b)) × T (binaryFits f (valueOf f b))

@@ -13,7 +13,7 @@ use borrow.Author.Tests.{eq-eqb, ne-eqb}
 use Rattle.lists.specs.Tests.{all}
 use Rattle.lists.proofs.Truth.{left, right, each}
 use Rattle.monitor.specs.declared.SegmentWords.{SegmentWords}
-use Rattle.monitor.specs.Segments.{segments, noSegment, segmentNumber, firstWord, lastWord, wordCount, rowIn, segmentRow, segmentAt, SoundWords, wordTests, soundAfter}
+use Rattle.monitor.specs.Segments.{segments, segmentCount, noSegment, segmentNumber, firstWord, lastWord, wordCount, rowIn, segmentRow, segmentAt, SoundWords, wordTests, soundAfter}
 
 -- ## the loop over the rows
 
@@ -56,7 +56,7 @@ in-rows before (s ∷ ss) (suc row) h t = in-rows (lastWord s) ss row (le-of-suc
 segments-sound : T (soundAfter 1 segments)
 segments-sound = tt
 
-pub sound-words : (row : ℕ) → row < length segments → SoundWords (segmentAt row)
+pub sound-words : (row : ℕ) → row < segmentCount → SoundWords (segmentAt row)
 sound-words row h = in-rows 1 segments row h segments-sound
 
 -- the row of a number is one of the table's, or the place past them
@@ -69,7 +69,7 @@ row-in-most (s ∷ ss) number = by-test (eqb (segmentNumber s) number) (row-in-m
     by-test true h = omega arith
     by-test false h = omega arith
 
-pub row-most : (number : ℕ) → segmentRow number ≤ 7
+pub row-most : (number : ℕ) → segmentRow number ≤ segmentCount
 unfolding segmentRow
 row-most number = row-in-most segments number
 

@@ -1,6 +1,6 @@
 -- The signed size of a frequency rate. Assumes nothing.
 use Prim.Native.Nat.{ℕ, zero, suc, _*_, _^_, _≤_, _<_}
-use mathlib.Core.Path.{_≡_, ap, sym, _∙_, subst}
+use mathlib.Core.Path.{_≡_, refl, ap, sym, _∙_, subst}
 use mathlib.Core.Bool.{Bool, cond}
 use mathlib.Core.List.{List}
 use native.Mathlib.Nat.{mul-le-mul}
@@ -12,20 +12,19 @@ use mir.Val.{SFits, toZ, ofZ}
 use mir.ValLaws.{toZ-pos, toZ-ofZ}
 use borrow.Author.Tests.{eq-eqb, ne-eqb}
 use Rattle.bits.specs.Bits.{getBits}
-use Rattle.bits.proofs.Bits.{getBits-lt}
 use Rattle.bits.proofs.Decimal.{decimal-room}
-use Rattle.fields.specs.Field.{valueOf}
+use Rattle.fields.specs.Field.{start, width, digitCount, valueOf}
+use Rattle.fields.proofs.OneField.{value-lt}
 use Rattle.header.specs.Rows.{frequencyRateDigits, frequencyRatePower}
 use Rattle.record.specs.FrequencyRate.{mostDigits, frequencyRateUnits}
 
 -- digits and power of any bytes
 pub digits-small : (b : List ℕ) → valueOf frequencyRateDigits b < mostDigits
 unfolding valueOf
-digits-small b = omega (arith, decimal-room 5 (getBits 408 20 b))
+digits-small b = omega (arith, decimal-room (digitCount frequencyRateDigits) (getBits (start frequencyRateDigits) (width frequencyRateDigits) b))
 
 pub power-small : (b : List ℕ) → valueOf frequencyRatePower b < 8
-unfolding valueOf
-power-small b = getBits-lt 428 3 b
+power-small b = value-lt frequencyRatePower b refl
 
 -- the greatest size: digits times a power of ten below 8
 abbrev pub mostUnits : ℕ

@@ -12,7 +12,7 @@ use borrow.Author.Tests.{eq-eqb, ne-eqb, eqb-true}
 use Rattle.lists.proofs.Truth.{left, right, each}
 use Rattle.header.specs.Format.{headerBytes}
 use Rattle.sample_rates.specs.declared.SampleRate.{SampleRate}
-use Rattle.sample_rates.specs.Rates.{rates, noRate, lineIn, sampleRateOf, rateHz, recordsPerSecond, samplesPerRecord, lastSampleWord, wordsA, wordsB, mostSamples, lineTests, soundLine, soundLines}
+use Rattle.sample_rates.specs.Rates.{rates, noRate, lineIn, sampleRateOf, rateHz, recordsPerSecond, samplesPerRecord, lastSampleWord, wordsA, wordsB, mostSamples, secondUs, lineTests, soundLine, soundLines}
 
 -- ## the loop over the lines
 
@@ -41,7 +41,7 @@ pub record SoundLine (hz : ℕ) (l : SampleRate) : Type 0 where
   pub same : rateHz l ≡ hz
   pub positive : 1 ≤ rateHz l
   pub second : recordsPerSecond l * samplesPerRecord l ≡ rateHz l
-  pub even : 1000000 % rateHz l ≡ 0
+  pub even : secondUs % rateHz l ≡ 0
   pub last : 2 * lastSampleWord l ≡ headerBytes + 4 * samplesPerRecord l
   pub shorter : wordsA l ≡ lastSampleWord l + 150
   pub longer : wordsB l ≡ lastSampleWord l + 155

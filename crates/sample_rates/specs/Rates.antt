@@ -58,9 +58,12 @@ wordsA l = l .«words_a»
 abbrev pub isNoRate : SampleRate → Bool
 isNoRate l = eqb (rateHz l) 0
 
--- the microseconds from a sample to the next
+-- the microseconds of a second, and those from a sample to the next; 0 for the line of no rate
+abbrev pub secondUs : ℕ
+secondUs = 1000000
+
 abbrev pub intervalUs : SampleRate → ℕ
-intervalUs l = 1000000 / rateHz l
+intervalUs l = cond (isNoRate l) 0 (secondUs / rateHz l)
 
 -- no record has more samples of a channel
 abbrev pub mostSamples : ℕ
@@ -72,7 +75,7 @@ abbrev pub lineTests : SampleRate → List Bool
 lineTests l =
     leb 1 (rateHz l) ∷
     eqb (recordsPerSecond l * samplesPerRecord l) (rateHz l) ∷
-    eqb (1000000 % rateHz l) 0 ∷
+    eqb (secondUs % rateHz l) 0 ∷
     eqb (2 * lastSampleWord l) (headerBytes + 4 * samplesPerRecord l) ∷
     eqb (wordsA l) (lastSampleWord l + 150) ∷
     eqb (wordsB l) (lastSampleWord l + 155) ∷

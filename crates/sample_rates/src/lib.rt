@@ -1,6 +1,10 @@
 // The seven sample rates of 1985, and what follows from a rate. FORMAT, "Rates".
 ghost use mathlib.Core.Path.{_≡_};
-ghost use Rattle.sample_rates.specs.Rates.{line, sampleRateOf};
+ghost use Prim.Native.Nat.{_≤_};
+ghost use Rattle.sample_rates.specs.Rates.{secondUs, line, sampleRateOf, intervalUs};
+
+// The microseconds of a second.
+const SECOND_US: u64 = 1_000_000;
 
 // A line of the table: samples a second in each channel, records a second, samples a channel in a record, the last word of
 // samples, and the record's length in words with and without the operator offsets (software OP-B and OP-A).
@@ -60,4 +64,14 @@ pub fn sample_rate_of(hz: u64) -> SampleRate
         return line(200, 2, 100, 240, 395, 390);
     }
     line(0, 0, 0, 0, 0, 0)
+}
+
+// The microseconds from a sample to the next; 0 for the line of no rate.
+pub fn interval_us(rate: SampleRate) -> u64
+    ensures { λ r. ⌜ (r ≡ intervalUs rate) × (r ≤ secondUs) ⌝ }
+{
+    if rate.hz == 0 {
+        return 0;
+    }
+    SECOND_US / rate.hz
 }

@@ -1,40 +1,22 @@
--- The phase counts of an accepted record have 48 bits. Assumes nothing.
+-- A phase count has 48 bits, so that its cycles are exact. Assumes nothing.
 use Prim.Native.Nat.{ℕ, _%_, _^_, _<_}
-use native.Mathlib.Nat.{mod-eq-of-lt}
+use mathlib.Core.Path.{_≡_, refl, ap, subst, _∙_}
 use mathlib.Core.Bool.{false}
+use mathlib.Core.List.{List}
+use native.Mathlib.Nat.{mod-eq-of-lt}
 use lib.Ieee.{Float}
 use lib.Ieee.Exact.{HasValue}
+use Rattle.fields.specs.declared.Field.{Field}
+use Rattle.fields.specs.Field.{isDecimal, width, valueOf}
+use Rattle.fields.proofs.OneField.{value-lt}
 use Rattle.phase.specs.Phase.{fractionBits, phaseOf}
-use mathlib.Core.Path.{_≡_, sym, subst, _∙_}
-use mathlib.Core.List.{List}
-use lib.Dec.{lit<, ltb→lt}
-use Rattle.fields.specs.Field.{binaryFits}
-use Rattle.fields.specs.Table.{readAll}
-use Rattle.fields.proofs.Tables.{fit-at}
-use Rattle.header.specs.declared.Header.{Header}
-use Rattle.header.specs.Format.{fields}
-use Rattle.header.specs.Header.{headerOf}
-use Rattle.record.specs.Record.{recordRefusal}
-use Rattle.record.proofs.Accepted.{values-small}
 
-abbrev Small : Header → Type 0
-Small h = (h .«phase_1» < 2 ^ 48) × (h .«phase_2» < 2 ^ 48)
+abbrev Exact : Float → ℕ → Type 0
+Exact x count = (x ≡ phaseOf fractionBits count) × HasValue x false count (2 ^ fractionBits)
 
-module _ (b : List ℕ) (e : recordRefusal b ≡ 0) where
-  pub counts-small : Small (headerOf b)
-  unfolding headerOf
-  counts-small = (
-    ltb→lt _ _ (fit-at binaryFits fields (readAll fields b) 34 (values-small b e .1) (lit< tt)),
-    ltb→lt _ _ (fit-at binaryFits fields (readAll fields b) 35 (values-small b e .1) (lit< tt)),
-  )
-
--- for a call that worked out the refusal r and read the header h
-pub counts : (b : List ℕ) {r : ℕ} {h : Header} → r ≡ recordRefusal b → r ≡ 0 → h ≡ headerOf b → Small h
-counts b e z f = subst Small (sym f) (counts-small b (sym e ∙ z))
-
--- a count of 48 bits is its own lowest 48 bits
-pub exactly : (x : Float) (count : ℕ) → count < 2 ^ 48
-    → (x ≡ phaseOf fractionBits (count % 2 ^ 48)) × HasValue x false (count % 2 ^ 48) (2 ^ fractionBits)
-    → (x ≡ phaseOf fractionBits count) × HasValue x false count (2 ^ fractionBits)
-exactly x count h =
-    subst (λ (n : ℕ). (x ≡ phaseOf fractionBits n) × HasValue x false n (2 ^ fractionBits)) (mod-eq-of-lt h)
+-- the cycles of what a field of 48 bits holds
+pub exactly : (f : Field) (b : List ℕ) → isDecimal f ≡ false → width f ≡ 48 → (x : Float) (count : ℕ) → count ≡ valueOf f b
+    → Exact x (count % 2 ^ 48) → Exact x (valueOf f b)
+exactly f b binary wide x count e =
+    subst (Exact x)
+    (ap (λ (n : ℕ). n % 2 ^ 48) e ∙ mod-eq-of-lt (subst (λ (w : ℕ). valueOf f b < 2 ^ w) wide (value-lt f b binary)))

@@ -1,3 +1,2 @@
 pub mod SampleTime
 pub mod Phases
-pub mod Shown

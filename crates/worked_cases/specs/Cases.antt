@@ -1,8 +1,12 @@
--- 01's "Values worked by hand", those marked P: what the definitions give beside what 01 says.
+-- Values worked by hand: what the definitions give beside what the customer's scope document says. FORMAT, "Cases worked by
+-- hand".
 use Prim.Native.Nat.{ℕ}
 use mathlib.Core.List.{List, [], _∷_, _++_}
 use lib.IntN.{ℤ, pos, negℤ}
-use lib.ListN.{getD}
+use Rattle.fields.specs.declared.Field.{Field}
+use Rattle.fields.specs.Table.{valueIn}
+use Rattle.header.specs.Format.{fields1985}
+use Rattle.header.specs.Rows.{readback}
 use Rattle.answers.specs.Answer.{Answer}
 use Rattle.record.specs.Record.{recordRefusal, headerAnswer}
 use Rattle.record.specs.FrequencyRate.{frequencyRateAnswer}
@@ -12,7 +16,7 @@ use Rattle.totals.specs.Total.{totalOf}
 use Rattle.times.specs.SampleTime.{timeAnswer}
 use Rattle.worked_cases.specs.Bytes.{Word, _is_, bytesFrom}
 
--- the record of 01's lister case: 390 words, zero but for these (hex 8101, 0001, 0186, AC18, 0293, 2E00, 4200, 0012, 3452,
+-- the record of the lister's case: 390 words, zero but for these (hex 8101, 0001, 0186, AC18, 0293, 2E00, 4200, 0012, 3452,
 -- 00C8, A55A); words named before them stand instead
 abbrev pub caseWords : List Word
 caseWords =
@@ -36,7 +40,7 @@ caseWith ws = bytesFrom (ws ++ caseWords) 1 390
 abbrev pub fastRecord : List ℕ
 fastRecord = bytesFrom (3 is 2190 ∷ 7 is 0 ∷ 8 is 1 ∷ 37 is 50000 ∷ caseWords) 1 2190
 
--- what a definition gives, and what 01 says: a refusal number first, then the value
+-- what a definition gives, and what it should: a refusal number first, then the value
 pub record Case : Type 0 where
   pub gives : List ℤ
   pub says : List ℤ
@@ -52,9 +56,9 @@ shownℤ a = pos (a .number) ∷ a .value ∷ []
 abbrev pub shownℕ : Answer ℕ → List ℤ
 shownℕ a = pos (a .number) ∷ pos (a .value) ∷ []
 
--- the refusal number and field k of the header
-abbrev pub shownField : ℕ → List ℕ → List ℤ
-shownField k b = pos (headerAnswer b .number) ∷ pos (getD (headerAnswer b .value) k 0) ∷ []
+-- the refusal number and the value of a field of the header
+abbrev pub shownField : Field → List ℕ → List ℤ
+shownField f b = pos (headerAnswer b .number) ∷ pos (valueIn fields1985 (headerAnswer b .value) f) ∷ []
 
 -- sum, squares, least and greatest
 abbrev pub shownTotal : Total → List ℤ
@@ -66,9 +70,6 @@ given c = c .gives
 
 abbrev pub said : Case → List ℤ
 said c = c .says
-
-abbrev pub readback : ℕ
-readback = 26
 
 abbrev pub cases : List Case
 cases =

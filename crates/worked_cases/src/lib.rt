@@ -1,1 +1,2 @@
-// 01's values worked by hand that are marked P: no code, one table in specs/Cases.antt and one statement in proofs/Worked.antt.
+// Values worked by hand: no code, one table in specs/Cases.antt and one statement in proofs/AllCases.antt. FORMAT, "Cases worked by
+// hand".

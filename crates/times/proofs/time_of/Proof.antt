@@ -1,12 +1,8 @@
--- No sum wraps: a time is below 2 ^ 37. Assumes nothing.
 use native.Mathlib.Omega.{arith}
 use Rattle.times.proofs.Timed.{product-small}
 use borrow.Author.Needs.{needs}
 use Rattle.times.proofs.time_of.Statement.{statement}
 use Rattle.times.proofs.time_of.Tie as tie
-
-mul-result : tie.Need-mul-result
-mul-result c = search needs
 
 mul-result-2 : tie.Need-mul-result-2
 mul-result-2 c = omega (arith, product-small (c .args .k) (c .args .interval) (c .pre .2) (c .pre .1))
@@ -14,8 +10,5 @@ mul-result-2 c = omega (arith, product-small (c .args .k) (c .args .interval) (c
 add-result : tie.Need-add-result
 add-result c = omega (arith, product-small (c .args .k) (c .args .interval) (c .pre .2) (c .pre .1))
 
-returns : tie.Need-returns
-returns c = search needs
-
 pub time-of-spec : {M : Type 1} → statement M
-time-of-spec = tie.close (tie.spec mul-result mul-result-2 add-result returns)
+time-of-spec = tie.close (tie.spec (λ c. search needs) mul-result-2 add-result (λ c. search needs))
