@@ -1,22 +1,12 @@
--- What 13 and 14 leave, and the rows and seconds that a buffer then holds. Assumes nothing.
+-- The rows and seconds that a long enough buffer holds. Assumes nothing.
 use Prim.Native.Nat.{ℕ, _*_, _/_, _<_, _≤_, min}
 use mathlib.Core.Path.{_≡_, sym}
 use mathlib.Core.List.{List}
 use native.Mathlib.Omega.{arith}
 use lib.ListN.{length}
-use Rattle.index_model.specs.declared.Opening.{Opening}
 use Rattle.index_model.specs.Cells.{width, blockAt, withBlock}
-use Rattle.index_model.specs.Opening.{openingRefusal}
-use Rattle.index_open.proofs.Room.{opening-room}
 use Rattle.index_cells.specs.Blocks.{blockOrNone, blockPut}
-use Rattle.index_cells.specs.Limits.{WithinLimits}
 use Rattle.index_cells.proofs.Parts.{held-block, held-put}
-
--- an opening that 13 and 14 do not refuse
-pub within-limits : (o : Opening) (rows seconds : ℕ) → openingRefusal o rows seconds ≡ 0 → WithinLimits o rows seconds
-within-limits o rows seconds e =
-    let room = opening-room o rows seconds e in
-    record { day = room .window; numbers = room .numbers; rows-long = room .row-cells; seconds-long = room .second-cells }
 
 -- row (or second) i of n that a buffer holds
 module _ (cells : List ℕ) (n i : ℕ) (long : width * n ≤ length cells) (h : i < n) where
