@@ -1,7 +1,7 @@
--- `odr_segment` loses no byte: no segment is longer than the 90 bytes of its answer, so that the first `length` of them are the
--- segment. Assumes nothing.
+-- An answer has room for every segment: no segment is longer than its 90 bytes, so that the first ones are the segment. Assumes
+-- nothing.
 use Prim.Native.Nat.{ℕ, _≤_}
-use mathlib.Core.Path.{_≡_, sym, _∙_}
+use mathlib.Core.Path.{_≡_, _∙_}
 use mathlib.Core.List.{List}
 use native.Mathlib.Omega.{arith}
 use lib.ListN.{length, take, getD, length-take}
@@ -10,8 +10,7 @@ use Rattle.lists.specs.Fill.{tab}
 use Rattle.lists.proofs.Fill.{length-tab, getD-tab}
 use Rattle.monitor.specs.Monitor.{segmentAnswer}
 use Rattle.monitor.proofs.Given.{at-most}
-use Rattle.odr.specs.declared.SegmentOut.{SegmentOut}
-use Rattle.odr.specs.Out.{longestSegment, SegmentTold}
+use Rattle.c_answers.specs.Out.{longestSegment}
 
 -- the first bytes of a list, and then 0, begin with the list
 begins : (l : List ℕ) → length l ≤ longestSegment → take (length l) (tab (λ (k : ℕ). getD l k 0) 0 longestSegment) ≡ l
@@ -25,8 +24,7 @@ begins l h =
     size : length (take (length l) padded) ≡ length l
     size = simp length-take (omega (arith, length-tab (λ (k : ℕ). getD l k 0) 0 longestSegment))
 
-pub segment-whole : (this earlier : List ℕ) (number : ℕ) (r : SegmentOut) → SegmentTold r (segmentAnswer this earlier number)
-    → take (r .length) (r .bytes) ≡ segmentAnswer this earlier number .value
-segment-whole this earlier number r told =
-    let l = segmentAnswer this earlier number .value in
-    (λ i. take (told .size i) (told .bytes i)) ∙ begins l (at-most this earlier number)
+pub room-for-segment : (this earlier : List ℕ) (number : ℕ)
+    → take (length (segmentAnswer this earlier number .value)) (tab (λ (k : ℕ). getD (segmentAnswer this earlier number .value) k 0) 0 longestSegment)
+    ≡ segmentAnswer this earlier number .value
+room-for-segment this earlier number = begins (segmentAnswer this earlier number .value) (at-most this earlier number)

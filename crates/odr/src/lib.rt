@@ -33,8 +33,8 @@ use header::FIELD_COUNT;
 use index_means::MeansAnswer;
 use index_model::Opening;
 use index_query::SecondAnswer;
-use samples::TotalsAnswer;
 use sample_rates::RateLineAnswer;
+use samples::TotalsAnswer;
 
 // The segment's bytes are the first `length` ones; 0 follows.
 #[repr(C)]
