@@ -27,7 +27,8 @@ module _ (one two three four : List ℤ) (n c : ℕ) (least : 1 ≤ c) (most : c
       ∙ signed-of-byte (getD (channelOf one two three four c) k (pos 0)) f
 
   -- all n of them
-  pub samples-out : n ≤ length (channelOf one two three four c) → ((k : ℕ) → mag (getD (channelOf one two three four c) k (pos 0)) < 128)
+  pub samples-out : n ≤ length (channelOf one two three four c)
+      → ((k : ℕ) → mag (getD (channelOf one two three four c) k (pos 0)) < 128)
       → samplesOf (interleaved n one two three four) c n ≡ take n (channelOf one two three four c)
   samples-out h f =
       sym
@@ -35,7 +36,8 @@ module _ (one two three four : List ℤ) (n c : ℕ) (least : 1 ≤ c) (most : c
       (λ k q. (rw getD-take) ∙ sym (in-then-out k q (f k))))
 
   -- a buffer to which they go out
-  pub buffer-out : (buffer : List ℤ) → n ≤ length (channelOf one two three four c) → ((k : ℕ) → mag (getD (channelOf one two three four c) k (pos 0)) < 128)
+  pub buffer-out : (buffer : List ℤ) → n ≤ length (channelOf one two three four c)
+      → ((k : ℕ) → mag (getD (channelOf one two three four c) k (pos 0)) < 128)
       → over buffer (sampleOf (interleaved n one two three four) c) n ≡ take n (channelOf one two three four c) ++ drop n buffer
   unfolding over
   buffer-out buffer h f = ap (λ (x : List ℤ). x ++ drop n buffer) (samples-out h f)

@@ -11,14 +11,16 @@ use Rattle.channels.proofs.multiplex.Statement.{statement}
 use Rattle.channels.proofs.multiplex.Tie as tie
 
 -- the stretch has room for so many samples, and each channel has as many
-held : (q : tie.After-lesser4) → let a = q .before .before .before .before .before .args in Held (length (now (a .stretch))) (length (now (a .one))) (length (now (a .two))) (length (now (a .three))) (length (now (a .four))) (q .lesser4 .result)
+held : (q : tie.After-lesser4)
+    → let a = q .before .before .before .before .before .args in Held (length (now (a .stretch))) (length (now (a .one))) (length (now (a .two))) (length (now (a .three))) (length (now (a .four))) (q .lesser4 .result)
 held q =
     let three = q .before in
     let two = three .before in
     let one = two .before in
     all-held _ _ _ _ _ _ _ _ _ (one .lesser .ensures) (two .lesser2 .ensures) (three .lesser3 .ensures) (q .lesser4 .ensures)
 
-front : (q : tie.After-lesser4) → let l = now (q .before .before .before .before .before .args .stretch) in length (take (4 * q .lesser4 .result) l) ≡ 4 * q .lesser4 .result
+front : (q : tie.After-lesser4)
+    → let l = now (q .before .before .before .before .before .args .stretch) in length (take (4 * q .lesser4 .result) l) ≡ 4 * q .lesser4 .result
 front q = length-take-le (4 * q .lesser4 .result) _ (held q .room)
 
 slice-aggregate-store-sets : tie.Need-slice-aggregate-store-sets
