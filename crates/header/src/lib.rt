@@ -1,13 +1,9 @@
-// The header of 1985, read, written and judged by one table of rows. FORMAT, "The record". A header is its list of values in the
+// The header of 1985: its table of rows, and its values read. FORMAT, "The record". A header is its list of values in the
 // table's order: the rows that every edition has, then its own.
 ghost use mathlib.Core.Path.{_≡_};
-ghost use mathlib.Core.List.{_++_, _∷_, []};
-ghost use Prim.Native.Nat.{_≤_};
-ghost use lib.ListN.{length};
-ghost use Rattle.fields.specs.Field.{binaryFits, decimalFits};
-ghost use Rattle.fields.specs.Table.{readAll, writeAll, allDigitsGood, allFit};
-ghost use Rattle.header_parts.specs.Parts.{Reads, cells};
-ghost use Rattle.header.specs.Format.{common1, common2, common3, common4, common5, own1985, fields1985, fieldCount};
+ghost use Rattle.fields.specs.Table.{readAll, allDigitsGood};
+ghost use Rattle.header_parts.specs.Parts.{Reads};
+ghost use Rattle.header.specs.Format.{common1, common2, common3, common4, common5, own1985, fields1985};
 use fields::Field;
 
 // Bytes of the header, and the number of its fields.
@@ -110,76 +106,6 @@ pub const REGISTER_1: Field = Field(40, 1, 8, false);
 
 pub const REGISTER_2: Field = Field(40, 9, 8, false);
 
-// No row: fills the last part of a table.
-const NO_FIELD: Field = Field(0, 0, 0, false);
-
-// The format: the rows that every edition has, eight a part, and those of 1985.
-const COMMON_1: [Field; 8] = [
-    CLOCK_ORIGIN,
-    SESSION_START,
-    COPY_ERROR,
-    CONVERSION,
-    COMPRESSION,
-    TAPE_NUMBER,
-    RECORD_NUMBER,
-    LENGTH_WORDS,
-];
-
-const COMMON_2: [Field; 8] = [
-    PRIME_FEA,
-    SECONDARY_FEA,
-    SPACECRAFT,
-    SPC,
-    YEAR,
-    DAY,
-    TIME_TAG,
-    PREDICT_0,
-];
-
-const COMMON_3: [Field; 8] = [
-    PREDICT_1,
-    PREDICT_2,
-    PREDICT_3,
-    PREDICT_4,
-    PREDICT_5,
-    PREDICT_6,
-    PREDICT_7,
-    PREDICT_8,
-];
-
-const COMMON_4: [Field; 8] = [
-    PREDICT_9,
-    STATUS,
-    READBACK,
-    READBACK_TAG,
-    CALCULATED,
-    UPDATE_TAG,
-    FREQUENCY_RATE_DIGITS,
-    FREQUENCY_RATE_POWER,
-];
-
-const COMMON_5: [Field; 8] = [
-    FREQUENCY_RATE_SIGN,
-    PHASE_1,
-    PHASE_2,
-    SELECTOR_1,
-    SELECTOR_2,
-    SELECTOR_3,
-    SELECTOR_4,
-    COUNTER_TAG,
-];
-
-const OWN_1985: [Field; 8] = [
-    FILTER,
-    SAMPLE_RATE,
-    SYNC,
-    WORD_39,
-    REGISTER_1,
-    REGISTER_2,
-    NO_FIELD,
-    NO_FIELD,
-];
-
 // The places, in the list of values, of those that a writer judges.
 pub const AT_CLOCK_ORIGIN: usize = 0;
 
@@ -199,18 +125,19 @@ pub const AT_DAY: usize = 13;
 
 pub const AT_TIME_TAG: usize = 14;
 
-const AT_READBACK: usize = 26;
+pub const AT_READBACK: usize = 26;
 
 pub const AT_READBACK_TAG: usize = 27;
 
-const AT_CALCULATED: usize = 28;
+pub const AT_CALCULATED: usize = 28;
 
-const AT_FREQUENCY_RATE_DIGITS: usize = 30;
+pub const AT_FREQUENCY_RATE_DIGITS: usize = 30;
 
 pub const AT_SAMPLE_RATE: usize = 41;
 
 pub const AT_SYNC: usize = 42;
 
+// The values of each part's rows, every row named: an index into a table would write the table to memory first.
 fn read_common_1(bytes: &[u8]) -> [u64; 8]
     ensures { λ r. ⌜ Reads 0 common1 (now (bytes .entry)) r ⌝ }
 {
@@ -286,7 +213,8 @@ fn read_common_5(bytes: &[u8]) -> [u64; 8]
     ]
 }
 
-fn read_own_1985(bytes: &[u8]) -> [u64; 6]
+// The last part of 1985 is short, and ends in zeros.
+fn read_own_1985(bytes: &[u8]) -> [u64; 8]
     ensures { λ r. ⌜ Reads 0 own1985 (now (bytes .entry)) r ⌝ }
 {
     [
@@ -296,67 +224,8 @@ fn read_own_1985(bytes: &[u8]) -> [u64; 6]
         fields::read_field(bytes, WORD_39),
         fields::read_field(bytes, REGISTER_1),
         fields::read_field(bytes, REGISTER_2),
-    ]
-}
-
-// The parts as one list.
-fn joined(
-    a: [u64; 8],
-    b: [u64; 8],
-    c: [u64; 8],
-    d: [u64; 8],
-    e: [u64; 8],
-    f: [u64; 6],
-) -> [u64; FIELD_COUNT]
-    ensures { λ r. ⌜ r ≡ cells 0 8 a ++ (cells 0 8 b ++ (cells 0 8 c ++ (cells 0 8 d ++ (cells 0 8 e ++ cells 0 6 f)))) ⌝ }
-{
-    [
-        a[0],
-        a[1],
-        a[2],
-        a[3],
-        a[4],
-        a[5],
-        a[6],
-        a[7],
-        b[0],
-        b[1],
-        b[2],
-        b[3],
-        b[4],
-        b[5],
-        b[6],
-        b[7],
-        c[0],
-        c[1],
-        c[2],
-        c[3],
-        c[4],
-        c[5],
-        c[6],
-        c[7],
-        d[0],
-        d[1],
-        d[2],
-        d[3],
-        d[4],
-        d[5],
-        d[6],
-        d[7],
-        e[0],
-        e[1],
-        e[2],
-        e[3],
-        e[4],
-        e[5],
-        e[6],
-        e[7],
-        f[0],
-        f[1],
-        f[2],
-        f[3],
-        f[4],
-        f[5],
+        0,
+        0,
     ]
 }
 
@@ -364,49 +233,14 @@ fn joined(
 pub fn read_values(bytes: &[u8]) -> [u64; FIELD_COUNT]
     ensures { λ r. ⌜ r ≡ readAll fields1985 (now (bytes .entry)) ⌝ }
 {
-    let a = read_common_1(bytes);
-    let b = read_common_2(bytes);
-    let c = read_common_3(bytes);
-    let d = read_common_4(bytes);
-    let e = read_common_5(bytes);
-    let f = read_own_1985(bytes);
-    joined(a, b, c, d, e, f)
-}
-
-// The eight values from place `at` on.
-fn part(v: [u64; FIELD_COUNT], at: usize) -> [u64; 8]
-    requires { ⌜ at ≤ 38 ⌝ }
-    ensures { λ r. ⌜ r ≡ cells at 8 v ⌝ }
-{
-    [
-        v[at + 0],
-        v[at + 1],
-        v[at + 2],
-        v[at + 3],
-        v[at + 4],
-        v[at + 5],
-        v[at + 6],
-        v[at + 7],
-    ]
-}
-
-// The values of 1985's own rows, and of no row; also, for callers that look into no value, how many values there are.
-fn own_part(v: [u64; FIELD_COUNT]) -> [u64; 8]
-    ensures { λ r. ⌜ (r ≡ cells 40 6 v ++ (0 ∷ 0 ∷ [])) × (length v ≡ fieldCount) ⌝ }
-{
-    [v[40], v[41], v[42], v[43], v[44], v[45], 0, 0]
-}
-
-// The values go into their fields; every bit that no field names stays.
-pub fn write_values(bytes: &mut [u8], values: [u64; FIELD_COUNT])
-    ensures { λ _. ⌜ now (bytes .exit) ≡ writeAll fields1985 values (now (bytes .entry)) ⌝ }
-{
-    header_parts::write_part(bytes, COMMON_1, part(values, 0));
-    header_parts::write_part(bytes, COMMON_2, part(values, 8));
-    header_parts::write_part(bytes, COMMON_3, part(values, 16));
-    header_parts::write_part(bytes, COMMON_4, part(values, 24));
-    header_parts::write_part(bytes, COMMON_5, part(values, 32));
-    header_parts::write_part(bytes, OWN_1985, own_part(values));
+    let mut values = [0u64; FIELD_COUNT];
+    header_parts::place(&mut values, 0, read_common_1(bytes));
+    header_parts::place(&mut values, 8, read_common_2(bytes));
+    header_parts::place(&mut values, 16, read_common_3(bytes));
+    header_parts::place(&mut values, 24, read_common_4(bytes));
+    header_parts::place(&mut values, 32, read_common_5(bytes));
+    header_parts::place(&mut values, 40, read_own_1985(bytes));
+    values
 }
 
 // Whether every digit of the decimal fields is at most 9.
@@ -417,30 +251,4 @@ pub fn digits_good(bytes: &[u8]) -> bool
     let calculated = fields::good_digits(bytes, CALCULATED);
     let rate = fields::good_digits(bytes, FREQUENCY_RATE_DIGITS);
     readback & (calculated & rate)
-}
-
-// The first number of fifteen digits, and of six.
-const FREQUENCY_BELOW: u64 = 100_000_000_000_000;
-
-const RATE_BELOW: u64 = 100_000;
-
-// Whether every decimal value has no more digits than its field.
-pub fn decimals_fit(values: [u64; FIELD_COUNT]) -> bool
-    ensures { λ r. ⌜ r ≡ allFit decimalFits fields1985 values ⌝ }
-{
-    (values[AT_READBACK] < FREQUENCY_BELOW)
-        & ((values[AT_CALCULATED] < FREQUENCY_BELOW)
-            & (values[AT_FREQUENCY_RATE_DIGITS] < RATE_BELOW))
-}
-
-// Whether every binary value has no more bits than its field.
-pub fn binaries_fit(values: [u64; FIELD_COUNT]) -> bool
-    ensures { λ r. ⌜ r ≡ allFit binaryFits fields1985 values ⌝ }
-{
-    let f = header_parts::fit_part(OWN_1985, own_part(values), true);
-    let e = header_parts::fit_part(COMMON_5, part(values, 32), f);
-    let d = header_parts::fit_part(COMMON_4, part(values, 24), e);
-    let c = header_parts::fit_part(COMMON_3, part(values, 16), d);
-    let b = header_parts::fit_part(COMMON_2, part(values, 8), c);
-    header_parts::fit_part(COMMON_1, part(values, 0), b)
 }

@@ -1,26 +1,46 @@
 -- Parts put together: read as a list, written one after the other, and all the cells of a list. Assumes nothing.
 use Prim.Native.Nat.{ℕ, zero, suc, _+_}
 use mathlib.Core.Path.{_≡_, refl, ap, sym, _∙_}
-use mathlib.Core.Bool.{Bool}
+use mathlib.Core.Bool.{Bool, true, false, cond}
 use mathlib.Core.List.{List, [], _∷_}
-use native.Mathlib.Omega.{arith}
 use lib.ListN.{length, getD}
 use Rattle.fields.specs.declared.Field.{Field}
+use Rattle.fields.specs.Field.{none, withValue, readable}
 use Rattle.fields.specs.Table.{readAll}
-use Rattle.header_parts.specs.Parts.{cells, Reads, writeRows, fitRows}
+use Rattle.fields.proofs.OneField.{length-with}
+use Rattle.header_parts.specs.Parts.{cells, Reads, rowWritten, placed, writeRows, fitRows}
 
 -- a part that is read, as a list
 pub listed : (k : ℕ) (fs : List Field) (b r : List ℕ) → Reads k fs b r → cells k (length fs) r ≡ readAll fs b
 listed k [] b r h = refl
 listed k (f ∷ fs) b r h = λ i. h .0 i ∷ listed (suc k) fs b r (h .1) i
 
--- a part that is written after those before it
-pub written : (t : List Field) {v w b c d : List ℕ} → c ≡ writeRows 0 8 t v b → v ≡ w → b ≡ d → c ≡ writeRows 0 8 t w d
-written t e p q = e ∙ (λ i. writeRows 0 8 t (p i) (q i))
+-- a part that comes after those before it: placed, written, judged with the rest
+pub then-placed : (at : ℕ) (p : List ℕ) {c b d : List ℕ} → c ≡ placed 0 8 at p b → b ≡ d → c ≡ placed 0 8 at p d
+then-placed at p e q = e ∙ ap (placed 0 8 at p) q
 
--- a part that is judged with the rest after it
-pub fitted : (t : List Field) {v w : List ℕ} {r s u : Bool} → r ≡ fitRows 0 8 t v s → v ≡ w → s ≡ u → r ≡ fitRows 0 8 t w u
-fitted t e p q = e ∙ (λ i. fitRows 0 8 t (p i) (q i))
+pub then-written : (t : List Field) (at : ℕ) (v : List ℕ) {c b d : List ℕ}
+    → c ≡ writeRows 0 8 t at v b → b ≡ d → c ≡ writeRows 0 8 t at v d
+then-written t at v e q = e ∙ ap (writeRows 0 8 t at v) q
+
+pub then-fitted : (t : List Field) (at : ℕ) {v w : List ℕ} → v ≡ w → {r s u : Bool}
+    → r ≡ fitRows 0 8 t at v s → s ≡ u → r ≡ fitRows 0 8 t at w u
+then-fitted t at p e q = e ∙ (λ i. fitRows 0 8 t at (p i) (q i))
+
+-- writing keeps the length
+length-row : (f : Field) (v : ℕ) (b : List ℕ) → length (rowWritten f v b) ≡ length b
+unfolding rowWritten
+length-row f v b = either-way (readable f)
+  where
+    either-way : (t : Bool) → length (cond t (withValue f v b) b) ≡ length b
+    either-way true = length-with f v b
+    either-way false = refl
+
+pub length-rows : (k n : ℕ) (t : List Field) (at : ℕ) (v b : List ℕ) → length (writeRows k n t at v b) ≡ length b
+length-rows k zero t at v b = refl
+length-rows k (suc n) t at v b =
+    length-rows (suc k) n t at v (rowWritten (getD t k none) (getD v (at + k) 0) b)
+    ∙ length-row (getD t k none) (getD v (at + k) 0) b
 
 -- the cells of a list from its first on are the list
 cells-next : (k n x : ℕ) (v : List ℕ) → cells (suc k) n (x ∷ v) ≡ cells k n v
@@ -33,21 +53,3 @@ all-cells (x ∷ v) = ap (λ (l : List ℕ). x ∷ l) (cells-next 0 (length v) x
 
 pub whole : (n : ℕ) (v : List ℕ) → length v ≡ n → cells 0 n v ≡ v
 whole n v e = ap (λ (m : ℕ). cells 0 m v) (sym e) ∙ all-cells v
-
--- eight cells, each by its distance from the first
-pub eight : (k : ℕ) (v : List ℕ)
-    → getD v (k + 0) 0 ∷ getD v (k + 1) 0 ∷ getD v (k + 2) 0 ∷ getD v (k + 3) 0 ∷
-    getD v (k + 4) 0 ∷ getD v (k + 5) 0 ∷ getD v (k + 6) 0 ∷ getD v (k + 7) 0 ∷ []
-    ≡ cells k 8 v
-eight k v =
-    let at : (n m : ℕ) → n ≡ m → getD v n 0 ≡ getD v m 0 = λ n m. ap (λ (j : ℕ). getD v j 0) in
-    λ i.
-    at (k + 0) k (omega arith) i ∷
-    at (k + 1) (suc k) (omega arith) i ∷
-    at (k + 2) (suc (suc k)) (omega arith) i ∷
-    at (k + 3) (suc (suc (suc k))) (omega arith) i ∷
-    at (k + 4) (suc (suc (suc (suc k)))) (omega arith) i ∷
-    at (k + 5) (suc (suc (suc (suc (suc k))))) (omega arith) i ∷
-    at (k + 6) (suc (suc (suc (suc (suc (suc k)))))) (omega arith) i ∷
-    at (k + 7) (suc (suc (suc (suc (suc (suc (suc k))))))) (omega arith) i ∷
-    []

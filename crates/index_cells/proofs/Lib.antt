@@ -1,3 +1,3 @@
 pub mod Merging
 pub mod Parts
-pub mod Limits
+pub mod Held

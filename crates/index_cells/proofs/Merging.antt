@@ -7,7 +7,7 @@ use native.Mathlib.Omega.{arith}
 use native.Mathlib.Numerals.{add-one}
 use Rattle.lists.specs.Fill.{tab}
 use Rattle.lists.proofs.Fill.{tab-ext}
-use Rattle.index_model.specs.Cells.{width, cell, blockAt, noRow, mergeBy, merge, merged, mergeIf, rowWithin, cellFrom, secondFrom}
+use Rattle.index_model.specs.Cells.{width, cellLimit, cell, blockAt, noRow, mergeBy, merge, merged, mergeIf, rowWithin, cellFrom, secondFrom}
 use Rattle.index_model.proofs.Blocks.{block-at}
 use Rattle.index_model.proofs.Seconds.{second-at, length-merged, merged-at}
 
@@ -28,7 +28,7 @@ module _ (g : Bool) (a b : ℕ) where
       by true z = omega arith
       by false z = absurd (true≢false (sym z))
 
-  pub merge-sum : g ≡ false → (a + b) % 4294967296 ≡ mergeBy g a b
+  pub merge-sum : g ≡ false → (a + b) % cellLimit ≡ mergeBy g a b
   unfolding mergeBy
   merge-sum e = sym (λ t. mergeBy (e t) a b)
 

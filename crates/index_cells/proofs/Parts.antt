@@ -5,12 +5,12 @@ use mathlib.Core.Bool.{cond}
 use mathlib.Core.List.{List}
 use native.Mathlib.Omega.{arith}
 use native.Mathlib.Nat.{add-sub-cancel-left}
-use lib.ListN.{length}
+use lib.ListN.{length, List·getD-eq-default}
 use borrow.Author.Tests.{lt-ltb, le-ltb}
 use borrow.Rule.Slice.PartMut.{putMid}
 use Rattle.lists.specs.Fill.{tab}
 use Rattle.lists.proofs.Fill.{Filled, tab-ext}
-use Rattle.index_model.specs.Cells.{width, blockAt, withBlock, noRow}
+use Rattle.index_model.specs.Cells.{width, cell, blockAt, withBlock, noRow}
 use Rattle.index_cells.specs.Blocks.{blockOrNone, blockPut}
 
 -- a list of a row's length whose cells are all filled by a rule
@@ -21,6 +21,10 @@ all-filled {b} {f} {n} {l} e w o = tab-ext f width 0 l (o .same ∙ w) (λ i h. 
 pub part-put : (l : List ℕ) (i : ℕ) (block : List ℕ) → putMid (width * i) (width * i + width - width * i) l block ≡ withBlock l i block
 unfolding withBlock
 part-put l i block = λ t. putMid (width * i) (add-sub-cancel-left (width * i) width t) l block
+
+-- a cell past the end of the buffer
+pub past-end : (cells : List ℕ) (i j : ℕ) → length cells ≤ width * i + j → 0 ≡ cell cells i j
+past-end cells i j h = sym (List·getD-eq-default cells 0 {n = width * i + j} h)
 
 -- a buffer that holds row i, and one that does not
 module _ (cells : List ℕ) (i : ℕ) where

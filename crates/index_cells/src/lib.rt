@@ -1,15 +1,14 @@
 // Cells of the index: a row or a second read and replaced, a row merged into a second, a second worked out from the rows.
-// 01: "The book". Every function here takes any cells.
+// FORMAT, "The index of seconds". Every public function here takes any cells.
 ghost use mathlib.Core.Path.{_≡_};
 ghost use mathlib.Core.Bool.{cond, not, _&&_};
 ghost use Prim.Native.Nat.{_+_, _*_, _/_, _≤_, _<_, min};
 ghost use lib.Dec.{eqb};
 ghost use lib.ListN.{length};
-ghost use Rattle.index_model.specs.Cells.{width, blockAt, isGreatest, merge, merged, rowWithin, secondFrom};
+ghost use Rattle.index_model.specs.Cells.{width, cellLimit, cell, blockAt, isGreatest, merge, merged, rowWithin, secondFrom};
 ghost use Rattle.index_cells.specs.Blocks.{blockOrNone, blockPut};
-
-// Cells in a row, and in a second.
-pub const WIDTH: usize = 20;
+use index_model::CELL_LIMIT;
+use index_model::WIDTH;
 
 // The cells before those of the channels: records (1 in a row that is held), records with clock origin 1, records with copy
 // error 1, and in a row its second.
@@ -21,12 +20,27 @@ pub const ERRORS: usize = 2;
 
 pub const SECOND: usize = 3;
 
+// Cell j of row (or second) i, counted from 0; 0 past the end of the buffer.
+pub fn read_cell(cells: &[u32], i: u64, j: usize) -> u32
+    ensures { λ r. ⌜ r ≡ cell (now (cells .entry)) i j ⌝ }
+{
+    let place = i as usize;
+    if place > cells.len() / WIDTH {
+        return 0;
+    }
+    let start = WIDTH * place;
+    if j >= cells.len() - start {
+        return 0;
+    }
+    cells[start + j]
+}
+
 // The cells of row (or second) i of a buffer.
-fn read_block(cells: &[u32], i: usize) -> [u32; 20]
+fn read_block(cells: &[u32], i: usize) -> [u32; WIDTH]
     requires { ⌜ width * i + width ≤ length (now cells) ⌝ }
     ensures { λ r. ⌜ r ≡ blockAt (now (cells .entry)) i ⌝ }
 {
-    let mut block = [0u32; 20];
+    let mut block = [0u32; WIDTH];
     let start = WIDTH * i;
     let mut j: usize = 0;
     while j < WIDTH {
@@ -37,17 +51,17 @@ fn read_block(cells: &[u32], i: usize) -> [u32; 20]
 }
 
 // The cells of row (or second) i, counted from 0; zeros where the buffer does not hold them all.
-pub fn block(cells: &[u32], i: u64) -> [u32; 20]
+pub fn block(cells: &[u32], i: u64) -> [u32; WIDTH]
     ensures { λ r. ⌜ r ≡ blockOrNone (now (cells .entry)) i ⌝ }
 {
     let place = i as usize;
     if place < cells.len() / WIDTH {
         return read_block(cells, place);
     }
-    [0u32; 20]
+    [0u32; WIDTH]
 }
 
-fn copy_block(part: &mut [u32], block: [u32; 20])
+fn copy_block(part: &mut [u32], block: [u32; WIDTH])
     requires { ⌜ length (now part) ≡ width ⌝ }
     ensures { λ _. ⌜ now (part .exit) ≡ block ⌝ }
 {
@@ -59,7 +73,7 @@ fn copy_block(part: &mut [u32], block: [u32; 20])
 }
 
 // The cells of row (or second) i, replaced; nothing changes where the buffer does not hold them all.
-pub fn put_block(cells: &mut [u32], i: u64, block: [u32; 20])
+pub fn put_block(cells: &mut [u32], i: u64, block: [u32; WIDTH])
     ensures { λ _. ⌜ now (cells .exit) ≡ blockPut (now (cells .entry)) i block ⌝ }
 {
     let place = i as usize;
@@ -87,11 +101,11 @@ fn merge_cell(j: usize, a: u32, b: u32) -> u32
         }
         return a;
     }
-    (((a as u64) + (b as u64)) % 4_294_967_296) as u32
+    (((a as u64) + (b as u64)) % CELL_LIMIT) as u32
 }
 
 // A second's cells with a row's added.
-pub fn merged_cells(second: [u32; 20], row: [u32; 20]) -> [u32; 20]
+pub fn merged_cells(second: [u32; WIDTH], row: [u32; WIDTH]) -> [u32; WIDTH]
     ensures { λ r. ⌜ r ≡ merged second row ⌝ }
 {
     let mut cells = second;
@@ -105,7 +119,7 @@ pub fn merged_cells(second: [u32; 20], row: [u32; 20]) -> [u32; 20]
 
 // A cell as a wider number.
 pub fn wide(x: u32) -> u64
-    ensures { λ r. ⌜ (r ≡ x) × (r < 4294967296) ⌝ }
+    ensures { λ r. ⌜ (r ≡ x) × (r < cellLimit) ⌝ }
 {
     x as u64
 }
@@ -118,7 +132,7 @@ pub fn is_of(held: u32, own: u32, second: u64) -> bool
 }
 
 // The cells with those of row i added, where that is held and of the second.
-fn with_row(cells: [u32; 20], rows: &[u32], i: usize, second: u64) -> [u32; 20]
+fn with_row(cells: [u32; WIDTH], rows: &[u32], i: usize, second: u64) -> [u32; WIDTH]
     requires { ⌜ width * i + width ≤ length (now rows) ⌝ }
     ensures { λ r. ⌜ r ≡ cond (rowWithin (now (rows .entry)) i second) (merged cells (blockAt (now (rows .entry)) i)) cells ⌝ }
 {
@@ -130,11 +144,11 @@ fn with_row(cells: [u32; 20], rows: &[u32], i: usize, second: u64) -> [u32; 20]
 }
 
 // The cells of a second from the first `count` rows.
-fn from_rows(rows: &[u32], second: u64, count: usize) -> [u32; 20]
+fn from_rows(rows: &[u32], second: u64, count: usize) -> [u32; WIDTH]
     requires { ⌜ width * count ≤ length (now rows) ⌝ }
     ensures { λ r. ⌜ r ≡ secondFrom (now (rows .entry)) second count ⌝ }
 {
-    let mut cells = [0u32; 20];
+    let mut cells = [0u32; WIDTH];
     let mut i: usize = 0;
     while i < count {
         let next = with_row(cells, rows, i, second);
@@ -145,7 +159,7 @@ fn from_rows(rows: &[u32], second: u64, count: usize) -> [u32; 20]
 }
 
 // The cells of a second from the first `count` rows, or from all where the buffer holds fewer.
-pub fn second_cells(rows: &[u32], second: u64, count: u64) -> [u32; 20]
+pub fn second_cells(rows: &[u32], second: u64, count: u64) -> [u32; WIDTH]
     ensures { λ r. ⌜ r ≡ secondFrom (now (rows .entry)) second (min count (length (now (rows .entry)) / width)) ⌝ }
 {
     let held = lists::lesser(count as usize, rows.len() / WIDTH);

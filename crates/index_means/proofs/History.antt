@@ -14,14 +14,15 @@ use Rattle.totals.specs.Total.{totalOf}
 use Rattle.index_model.specs.declared.Opening.{Opening}
 use Rattle.index_model.specs.Records.{channelSamples}
 use Rattle.index_model.specs.Second.{noSecond}
-use Rattle.index_model.specs.Opening.{inWindow, openingOf, openRefusal, openAnswer}
+use Rattle.index_model.specs.Buffers.{Buffers}
+use Rattle.index_model.specs.Opening.{inWindow, openingOf, openRefusal, openAnswer, opened}
 use Rattle.index_model.specs.Ledger.{Ledger, noRecords, recordsOf, totalsOver, ledgerSecond, ledgerQuery, Call}
 use Rattle.index_model.specs.History.{after, ledgerAfter}
 use Rattle.index_model.proofs.Sound.{SoundLedger, perRecord}
 use Rattle.index_model.proofs.Decoded.{second-sound, joined-length}
 use Rattle.index_model.proofs.Judging.{ask-answered}
 use Rattle.index_model.proofs.Opened.{returned}
-use Rattle.index_model.proofs.Demand3.{opened, fits, ended}
+use Rattle.index_model.proofs.Demand3.{fits, ended}
 use Rattle.index_means.specs.Means.{meansOf, noMeansEach, secondMeans, meansBy, meansAnswer}
 use Rattle.index_means.specs.OfLedger.{ledgerMeans, ledgerMeansAnswer}
 
@@ -46,22 +47,21 @@ module _ (o : Opening) (L : Ledger) (sound : SoundLedger o L) (s : ℕ) where
       by-test true = λ t. accepted (by-ledger t)
       by-test false = refl
 
-module _ (pattern : List ℕ) (F C R : ℕ) (rows seconds : List ℕ) (none : openRefusal pattern F C R rows seconds ≡ 0) (calls : List Call) (s : ℕ) where
+module _ (pattern : List ℕ) (F C R : ℕ) (c : Buffers) (none : openRefusal pattern F C R c ≡ 0) (calls : List Call) (s : ℕ) where
   abbrev pub ByLedger : Opening → Type 0
   ByLedger o =
-      let end = after o calls (opened pattern F C R rows seconds) in
-      meansAnswer o s (end .rows) (end .seconds) ≡ ledgerMeansAnswer o (ledgerAfter o calls noRecords) s
+      meansAnswer o s (after o calls (opened pattern F C R c)) ≡ ledgerMeansAnswer o (ledgerAfter o calls noRecords) s
 
-  pub means-of-history : ByLedger (openAnswer pattern F C R rows seconds .value)
+  pub means-of-history : ByLedger (openAnswer pattern F C R c .value)
   unfolding meansAnswer
-  means-of-history = subst ByLedger (sym (returned pattern F C R rows seconds none)) proved
+  means-of-history = subst ByLedger (sym (returned pattern F C R c none)) proved
     where
       o : Opening
       o = openingOf pattern F C R
 
       proved : ByLedger o
       proved =
-          let end = ended pattern F C R rows seconds none calls in
+          let end = ended pattern F C R c none calls in
           let L = ledgerAfter o calls noRecords in
-          ap (meansBy o) (ask-answered o (fits pattern F C R rows seconds none calls) L (after o calls (opened pattern F C R rows seconds)) (end .0) (end .1) s)
+          ap (meansBy o) (ask-answered o (fits pattern F C R c none calls) L (after o calls (opened pattern F C R c)) (end .0) (end .1) s)
           ∙ answered o L (end .0 .sound) s

@@ -1,5 +1,5 @@
--- The mean and the mean square of each channel of a second. 01, "The book": "each one division of two whole numbers held exactly;
--- both are 0 for no samples". A question about them is refused as one about the second's totals is: 13, 14, 17.
+-- The mean and the mean square of each channel of a second, each one division of two whole numbers held exactly; both are 0 for no
+-- samples. FORMAT, "The index of seconds". A question about them is refused as one about the second's totals is: 13, 14, 17.
 use Prim.Native.Nat.{ℕ, suc, _*_}
 use mathlib.Core.Bool.{true, false, cond}
 use mathlib.Core.List.{List, [], _∷_, map}
@@ -11,6 +11,7 @@ use Rattle.answers.specs.Answer.{Answer, unless}
 use Rattle.totals.specs.declared.Total.{Total}
 use Rattle.index_model.specs.declared.Opening.{Opening}
 use Rattle.index_model.specs.Second.{SecondTotals}
+use Rattle.index_model.specs.Buffers.{Buffers}
 use Rattle.index_model.specs.Calls.{queryAnswer}
 use Rattle.index_means.specs.declared.Means.{Means}
 
@@ -45,5 +46,5 @@ secondMeans o s = eachMeans (s .channels) (s .records * samplesPerRecord (sample
 abbrev pub meansBy : Opening → Answer SecondTotals → Answer (List Means)
 meansBy o a = unless (a .number) noMeansEach (secondMeans o (a .value))
 
-unfoldable pub meansAnswer : Opening → ℕ → List ℕ → List ℕ → Answer (List Means)
-meansAnswer o s rows seconds = meansBy o (queryAnswer o s rows seconds)
+unfoldable pub meansAnswer : Opening → ℕ → Buffers → Answer (List Means)
+meansAnswer o s c = meansBy o (queryAnswer o s c)

@@ -1,4 +1,4 @@
--- The number and the values of 01 for the code's answer.
+-- The number and the values for the code's answer.
 use mathlib.Core.List.{List}
 use Rattle.answers.specs.Answer.{Answer, told}
 use Rattle.index_means.specs.declared.Means.{Means}

@@ -1,9 +1,10 @@
-// The mean and the mean square of each channel of a second: a question to the index, as `index_query::query` is. 01, "The book": "The
-// mean and mean square of each channel, kept together as 64-bit floats, are each one division of two whole numbers held exactly;
-// both are 0 for no samples". It takes any value of an opening and any cells, and changes none.
+// The mean and the mean square of each channel of a second: a question to the index, as `index_query::query` is. Each is one division
+// of two whole numbers that a 64-bit float holds exactly; both are 0 for no samples. FORMAT, "The index of seconds". It takes any
+// value of an opening and any cells, and changes none.
 ghost use mathlib.Core.Path.{_≡_};
 ghost use Prim.Native.Nat.{_≤_};
 ghost use Rattle.answers.specs.Answer.{refused};
+ghost use Rattle.index_model.specs.Buffers.{lent};
 ghost use Rattle.index_query.specs.Exact.{exactLimit, ExactTotal, ExactTotals};
 ghost use Rattle.index_means.specs.Means.{noMeans, meansOf, eachMeans, noMeansEach, meansAnswer};
 ghost use Rattle.index_means.specs.Shown.{shownMeans};
@@ -79,7 +80,7 @@ fn no_answer(refusal: u8) -> MeansAnswer
 
 // The means of the four channels of a second, by its totals and the samples of its records.
 pub fn second_means(o: Opening, second: u64, rows: &[u32], seconds: &[u32]) -> MeansAnswer
-    ensures { λ r. ⌜ shownMeans r ≡ meansAnswer o second (now (rows .entry)) (now (seconds .entry)) ⌝ }
+    ensures { λ r. ⌜ shownMeans r ≡ meansAnswer o second (lent (now (rows .entry)) (now (seconds .entry))) ⌝ }
 {
     let answer = index_query::query(o, second, rows, seconds);
     if answer.refusal != 0 {

@@ -12,10 +12,11 @@ use borrow.Author.Tests.{eqb-true, eqb-false}
 use Rattle.index_model.specs.declared.Opening.{Opening}
 use Rattle.index_model.specs.Records.{secondOf}
 use Rattle.index_model.specs.Cells.{width, cell, withBlock, isGreatest, cellLimit, rowWithin, secondFrom}
+use Rattle.index_model.specs.Buffers.{Buffers}
 use Rattle.index_model.specs.Opening.{placeOf}
 use Rattle.index_model.specs.Calls.{fullCount}
 use Rattle.index_model.specs.Ledger.{Ledger, withEntry}
-use Rattle.index_model.specs.History.{Cells, isOf}
+use Rattle.index_model.specs.History.{isOf}
 use Rattle.index_model.proofs.Blocks.{at-block, at-other}
 use Rattle.index_model.proofs.Rows.{rowFor, row-records, row-for-length}
 use Rattle.index_model.proofs.Totals.{share, cellTotal, one-share, own-share, share-none, share-all, count-sum, sums-fit, RowsOf, within-is, passed}
@@ -39,7 +40,7 @@ module _ (o : Opening) where
     pub sound : SoundLedger o L
 
   -- the rows are those of the ledger's records, and the cells of each second those of its records
-  pub record Agree (L : Ledger) (c : Cells) : Type 0 where
+  pub record Agree (L : Ledger) (c : Buffers) : Type 0 where
     pub rows-long : width * R ≤ length (c .rows)
     pub seconds-long : width * C ≤ length (c .seconds)
     pub rows-are : RowsOf R L (c .rows)
@@ -92,7 +93,7 @@ module _ (o : Opening) where
 
   -- ## the cells with one row changed
 
-  module _ (L : Ledger) (c : Cells) (agree : Agree L c) (n : ℕ) (p : 0 < n) (q : n ≤ R) where
+  module _ (L : Ledger) (c : Buffers) (agree : Agree L c) (n : ℕ) (p : 0 < n) (q : n ≤ R) where
     pub row-fits : width * (n - 1) + width ≤ length (c .rows)
     row-fits = omega (arith, agree .rows-long)
 

@@ -11,11 +11,12 @@ use lib.ListN.{getD, length}
 use borrow.Author.Tests.{eqb-true, eqb-false}
 use Rattle.index_model.specs.declared.Opening.{Opening}
 use Rattle.index_model.specs.Records.{secondOf}
-use Rattle.index_model.specs.Cells.{width, cell, blockAt, withBlock, rowOf, noRow, isGreatest, cellLimit, mergeBy, merged}
+use Rattle.index_model.specs.Cells.{width, cell, blockAt, withBlock, rowOf, isGreatest, cellLimit, mergeBy, merged}
+use Rattle.index_model.specs.Buffers.{Buffers}
 use Rattle.index_model.specs.Opening.{placeOf}
-use Rattle.index_model.specs.Calls.{fullCount, leave, join, secondsInserted, secondsRemoved}
+use Rattle.index_model.specs.Calls.{fullCount, leave, join, secondsInserted, rowInserted, secondsRemoved, rowRemoved}
 use Rattle.index_model.specs.Ledger.{Ledger, withEntry}
-use Rattle.index_model.specs.History.{Cells, isOf}
+use Rattle.index_model.specs.History.{isOf}
 use Rattle.index_model.proofs.Blocks.{length-with, elsewhere, at-block, at-other, block-at}
 use Rattle.index_model.proofs.Merges.{plainBy, plain-none, exact}
 use Rattle.index_model.proofs.Rows.{rowFor, row-for-length}
@@ -25,21 +26,9 @@ use Rattle.index_model.proofs.Limits.{in-window}
 use Rattle.index_model.proofs.Seconds.{leaveFor, leave-is, length-merged, merged-at, length-leave, leave-frame, length-join, join-frame}
 use Rattle.index_model.proofs.Agreement.{Regular, Agree, few-fit, inside, regular-without, regular-with, row-fits, old-row, old-within, rows-after, left-cells}
 
--- the cells once the record b is put under number n, and once number n is taken out
-abbrev pub putCells : Opening → Cells → ℕ → List ℕ → Cells
-putCells o c n b =
-    record {
-      rows = withBlock (c .rows) (n - 1) (rowOf b);
-      seconds = secondsInserted o (n - 1) (secondOf b) (rowOf b) (c .rows) (c .seconds);
-    }
-
-abbrev pub takenCells : Opening → Cells → ℕ → Cells
-takenCells o c n =
-    record { rows = withBlock (c .rows) (n - 1) noRow; seconds = secondsRemoved o (n - 1) (c .rows) (c .seconds) }
-
 -- what holds once number n has another entry: the cells are those of the ledger, and no cell changed but those of the row and
 -- of the seconds that the two entries are of
-pub record Changed (o : Opening) (L : Ledger) (n : ℕ) (entry : Option (List ℕ)) (old new : Cells) : Type 0 where
+pub record Changed (o : Opening) (L : Ledger) (n : ℕ) (entry : Option (List ℕ)) (old new : Buffers) : Type 0 where
   pub regular : Regular o (withEntry L n entry)
   pub agree : Agree o (withEntry L n entry) new
   pub rows-length : length (new .rows) ≡ length (old .rows)
@@ -47,7 +36,7 @@ pub record Changed (o : Opening) (L : Ledger) (n : ℕ) (entry : Option (List �
   pub rows : (m : ℕ) → eqb (suc (m / width)) n ≡ false → getD (new .rows) m 0 ≡ getD (old .rows) m 0
   pub seconds : (m : ℕ) → isOf (o .«first_second» + m / width) (L n) ≡ false → isOf (o .«first_second» + m / width) entry ≡ false → getD (new .seconds) m 0 ≡ getD (old .seconds) m 0
 
-module _ (o : Opening) (L : Ledger) (c : Cells) (regular : Regular o L) (agree : Agree o L c) (n : ℕ) (p : 0 < n) (q : n ≤ o .«highest_number») where
+module _ (o : Opening) (L : Ledger) (c : Buffers) (regular : Regular o L) (agree : Agree o L c) (n : ℕ) (p : 0 < n) (q : n ≤ o .«highest_number») where
   abbrev F : ℕ
   F = o .«first_second»
 
@@ -93,11 +82,11 @@ module _ (o : Opening) (L : Ledger) (c : Cells) (regular : Regular o L) (agree :
 
   -- ## take out
 
-  taken-is : secondsRemoved o (n - 1) (c .rows) (c .seconds) ≡ secondsLeft none
+  taken-is : secondsRemoved o (n - 1) c ≡ secondsLeft none
   unfolding secondsRemoved
   taken-is = left-is none
 
-  taken-agrees : Agree o (withEntry L n none) (takenCells o c n)
+  taken-agrees : Agree o (withEntry L n none) (rowRemoved o (n - 1) c)
   taken-agrees =
       record {
         rows-long = omega (arith, agree .rows-long, rows-length none);
@@ -110,7 +99,7 @@ module _ (o : Opening) (L : Ledger) (c : Cells) (regular : Regular o L) (agree :
             ∙ settled none k j refl (isOf (F + k) (L n)) refl;
       }
 
-  pub taken-changed : Changed o L n none c (takenCells o c n)
+  pub taken-changed : Changed o L n none c (rowRemoved o (n - 1) c)
   taken-changed =
       record {
         regular = regular-without o L regular n p q;
@@ -133,7 +122,7 @@ module _ (o : Opening) (L : Ledger) (c : Cells) (regular : Regular o L) (agree :
     new-regular : Regular o new
     new-regular = regular-with o L regular n p q b sound room
 
-    put-is : secondsInserted o (n - 1) s (rowOf b) (c .rows) (c .seconds) ≡ join (isOf s (L n)) (secondsLeft (some b)) (placeOf o s) (rowOf b)
+    put-is : secondsInserted o (n - 1) s (rowOf b) c ≡ join (isOf s (L n)) (secondsLeft (some b)) (placeOf o s) (rowOf b)
     unfolding secondsInserted
     put-is = λ t. join (old-within o L c agree n p q s t) (left-is (some b) t) (placeOf o s) (rowOf b)
 
@@ -204,10 +193,10 @@ module _ (o : Opening) (L : Ledger) (c : Cells) (regular : Regular o L) (agree :
             ∙ left-are (some b) new-regular k hk j hj
             ∙ settled (some b) k j eu (isOf (F + k) (L n)) refl
 
-    put-length : length (putCells o c n b .seconds) ≡ length (c .seconds)
+    put-length : length (rowInserted o (n - 1) s (rowOf b) c .seconds) ≡ length (c .seconds)
     put-length = ap length put-is ∙ length-join o s (sound .window) (rowOf b) (secondsLeft (some b)) long (isOf s (L n)) ∙ left-length (some b)
 
-    put-agrees : Agree o new (putCells o c n b)
+    put-agrees : Agree o new (rowInserted o (n - 1) s (rowOf b) c)
     put-agrees =
         record {
           rows-long = omega (arith, agree .rows-long, rows-length (some b));
@@ -216,7 +205,7 @@ module _ (o : Opening) (L : Ledger) (c : Cells) (regular : Regular o L) (agree :
           seconds-are = λ k hk j hj. (λ t. cell (put-is t) k j) ∙ put-seconds k hk j hj;
         }
 
-    pub put-changed : Changed o L n (some b) c (putCells o c n b)
+    pub put-changed : Changed o L n (some b) c (rowInserted o (n - 1) s (rowOf b) c)
     put-changed =
         record {
           regular = new-regular;

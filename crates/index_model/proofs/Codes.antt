@@ -1,5 +1,5 @@
--- A channel's samples as the numbers in cells: sum of (sample + 128), sum of squares, 128 less the least, the greatest plus
--- 129; and that the cells decode to the channel's total. Assumes nothing.
+-- A channel's samples as the numbers in cells: the sum with the offset of each sample, the sum of squares, the offset less the least,
+-- the greatest plus its offset; and that the cells decode to the channel's total. Assumes nothing.
 use Prim.Native.Nat.{ℕ, suc, _+_, _-_, _*_, _%_, _<_, _≤_, max}
 use mathlib.Core.Path.{_≡_, refl, ap, sym, _∙_}
 use mathlib.Core.List.{List, [], _∷_, _++_, foldl}
@@ -15,24 +15,24 @@ use Rattle.channels.specs.Sample.{signedOf}
 use Rattle.channels.proofs.Sign.{signed-low, signed-high}
 use Rattle.totals.specs.Total.{sumOf, squaresOf, lesser, greater, keptOf, leastOf, greatestOf, totalOf}
 use Rattle.totals.proofs.Samples.{Bytes}
-use Rattle.index_model.specs.Cells.{natOf, channelCells}
+use Rattle.index_model.specs.Cells.{sampleOffset, greatestOffset, natOf, channelCells}
 use Rattle.index_model.specs.Calls.{leastFrom, greatestFrom}
 use Rattle.index_model.proofs.Differences.{sub-pos, sub-neg, sub-same, sub-add, nat-plus, nat-minus, lesser-max, greater-max}
 
--- a sample plus 128, from 0 to 255
+-- a sample and its offset, from 0 to 255
 unfoldable pub offset : ℤ → ℕ
-offset (pos n) = 128 + n
-offset (negsuc n) = 127 - n
+offset (pos n) = sampleOffset + n
+offset (negsuc n) = sampleOffset - suc n
 
 pub offset-small : (x : ℤ) → SFits w8 x → offset x < 256
 unfolding offset
 offset-small (pos n) h = omega (arith, h .sfits)
 offset-small (negsuc n) h = omega (arith, h .sfits)
 
-pub offset-back : (x : ℤ) → SFits w8 x → x ≡ subℕ (offset x) 128
+pub offset-back : (x : ℤ) → SFits w8 x → x ≡ subℕ (offset x) sampleOffset
 unfolding offset
-offset-back (pos n) h = sym (sub-pos (128 + n) 128 n (omega arith))
-offset-back (negsuc n) h = sym (sub-neg (127 - n) 128 n (omega (arith, h .sfits)))
+offset-back (pos n) h = sym (sub-pos (sampleOffset + n) sampleOffset n (omega arith))
+offset-back (negsuc n) h = sym (sub-neg (sampleOffset - suc n) sampleOffset n (omega (arith, h .sfits)))
 
 -- ## sums
 
@@ -50,13 +50,13 @@ unfolding sumCode
 sum-code-small [] h = omega arith
 sum-code-small (x ∷ l) h = omega (arith, offset-small x (h .0), sum-code-small l (h .1))
 
-pub sum-decoded : (l : List ℤ) → Bytes l → sumOf l ≡ subℕ (sumCode l) (128 * length l)
+pub sum-decoded : (l : List ℤ) → Bytes l → sumOf l ≡ subℕ (sumCode l) (sampleOffset * length l)
 unfolding sumOf sumCode
 sum-decoded [] h = refl
 sum-decoded (x ∷ l) h =
     (λ t. offset-back x (h .0) t +ℤ sum-decoded l (h .1) t)
-    ∙ sub-add (offset x) 128 (sumCode l) (128 * length l)
-    ∙ sub-same (offset x + sumCode l) (128 + 128 * length l) (offset x + sumCode l) (128 * suc (length l)) (omega arith)
+    ∙ sub-add (offset x) sampleOffset (sumCode l) (sampleOffset * length l)
+    ∙ sub-same (offset x + sumCode l) (sampleOffset + sampleOffset * length l) (offset x + sumCode l) (sampleOffset * suc (length l)) (omega arith)
 
 -- ## least and greatest
 
@@ -108,20 +108,20 @@ leastCode x = 256 - offset x
 abbrev pub greatestCode : ℤ → ℕ
 greatestCode x = offset x + 1
 
-pub least-coding : Coding lesser leastCode (λ (a : ℕ). subℕ 128 a)
+pub least-coding : Coding lesser leastCode (λ (a : ℕ). subℕ sampleOffset a)
 least-coding =
     record {
-      kept = λ a b. lesser-max a b 128;
-      back = λ x h. offset-back x h ∙ sub-same (offset x) 128 128 (256 - offset x) (omega (arith, offset-small x h));
+      kept = λ a b. lesser-max a b sampleOffset;
+      back = λ x h. offset-back x h ∙ sub-same (offset x) sampleOffset sampleOffset (256 - offset x) (omega (arith, offset-small x h));
       some = λ x h. omega (arith, offset-small x h);
       most = λ x h. omega arith;
     }
 
-pub greatest-coding : Coding greater greatestCode (λ (a : ℕ). subℕ a 129)
+pub greatest-coding : Coding greater greatestCode (λ (a : ℕ). subℕ a greatestOffset)
 greatest-coding =
     record {
-      kept = λ a b. greater-max a b 129;
-      back = λ x h. offset-back x h ∙ sub-same (offset x) 128 (offset x + 1) 129 (omega arith);
+      kept = λ a b. greater-max a b greatestOffset;
+      back = λ x h. offset-back x h ∙ sub-same (offset x) sampleOffset (offset x + 1) greatestOffset (omega arith);
       some = λ x h. omega arith;
       most = λ x h. omega (arith, offset-small x h);
     }
@@ -135,35 +135,56 @@ pub cells-codes : (l : List ℤ) → Bytes l → (n : ℕ) → length l ≡ n �
 unfolding totalOf
 cells-codes l bytes n e p = λ t. sum-cell t ∷ squaresOf l ∷ least-cell t ∷ greatest-cell t ∷ []
   where
-    sum-cell : natOf (sumOf l +ℤ pos (128 * n)) ≡ sumCode l
+    sum-cell : natOf (sumOf l +ℤ pos (sampleOffset * n)) ≡ sumCode l
     sum-cell =
-        (λ t. natOf (sum-decoded l bytes t +ℤ pos (128 * n)))
-        ∙ (λ t. natOf (subℕ (sumCode l) (128 * e t) +ℤ pos (128 * n)))
-        ∙ nat-plus (sumCode l) (128 * n)
+        (λ t. natOf (sum-decoded l bytes t +ℤ pos (sampleOffset * n)))
+        ∙ (λ t. natOf (subℕ (sumCode l) (sampleOffset * e t) +ℤ pos (sampleOffset * n)))
+        ∙ nat-plus (sumCode l) (sampleOffset * n)
 
-    least-cell : natOf (pos 128 -ℤ leastOf l) ≡ topCode leastCode l
+    least-cell : natOf (pos sampleOffset -ℤ leastOf l) ≡ topCode leastCode l
     least-cell =
-        (λ t. natOf (pos 128 -ℤ kept-decoded least-coding l bytes (omega (arith, e)) t)) ∙ nat-minus (topCode leastCode l) 128
+        (λ t. natOf (pos sampleOffset -ℤ kept-decoded least-coding l bytes (omega (arith, e)) t)) ∙ nat-minus (topCode leastCode l) sampleOffset
 
-    greatest-cell : natOf (greatestOf l +ℤ pos 129) ≡ topCode greatestCode l
+    greatest-cell : natOf (greatestOf l +ℤ pos greatestOffset) ≡ topCode greatestCode l
     greatest-cell =
-        (λ t. natOf (kept-decoded greatest-coding l bytes (omega (arith, e)) t +ℤ pos 129)) ∙ nat-plus (topCode greatestCode l) 129
+        (λ t. natOf (kept-decoded greatest-coding l bytes (omega (arith, e)) t +ℤ pos greatestOffset)) ∙ nat-plus (topCode greatestCode l) greatestOffset
 
 -- ## codes from 1 to 256 as signed bytes
 
-pub least-from : (a : ℕ) → 1 ≤ a → a ≤ 256 → leastFrom a ≡ subℕ 128 a
-least-from a p q =
-    ⊎-elim
-    (λ h. ap signedOf (let z : (384 - a % 256) % 256 ≡ 128 - a = omega arith in z) ∙ signed-low (128 - a) (omega arith) ∙ sym (sub-pos 128 a (128 - a) (omega arith)))
-    (λ h. ap signedOf (let z : (384 - a % 256) % 256 ≡ 384 - a = omega arith in z) ∙ signed-high (384 - a) (omega arith) ∙ ap negsuc (let z : 255 - (384 - a) ≡ a - 129 = omega arith in z) ∙ sym (sub-neg 128 a (a - 129) (omega arith)))
-    (le-or-lt a 128)
+pub least-from : (a : ℕ) → 1 ≤ a → a ≤ 256 → leastFrom a ≡ subℕ sampleOffset a
+least-from a p q = ⊎-elim low high (le-or-lt a sampleOffset)
+  where
+    low : a ≤ sampleOffset → leastFrom a ≡ subℕ sampleOffset a
+    low h =
+        ap signedOf (let z : (256 + sampleOffset - a % 256) % 256 ≡ sampleOffset - a = omega arith in z)
+        ∙ signed-low (sampleOffset - a) (omega arith)
+        ∙ sym (sub-pos sampleOffset a (sampleOffset - a) (omega arith))
 
-pub greatest-from : (a : ℕ) → 1 ≤ a → a ≤ 256 → greatestFrom a ≡ subℕ a 129
-greatest-from a p q =
-    ⊎-elim
-    (λ h. ap signedOf (let z : (a + 127) % 256 ≡ a - 129 = omega arith in z) ∙ signed-low (a - 129) (omega arith) ∙ sym (sub-pos a 129 (a - 129) (omega arith)))
-    (λ h. ap signedOf (let z : (a + 127) % 256 ≡ a + 127 = omega arith in z) ∙ signed-high (a + 127) (omega arith) ∙ ap negsuc (let z : 255 - (a + 127) ≡ 128 - a = omega arith in z) ∙ sym (sub-neg a 129 (128 - a) (omega arith)))
-    (le-or-lt 129 a)
+    high : sampleOffset < a → leastFrom a ≡ subℕ sampleOffset a
+    high h =
+        ap signedOf (let z : (256 + sampleOffset - a % 256) % 256 ≡ 256 + sampleOffset - a = omega arith in z)
+        ∙ signed-high (256 + sampleOffset - a) (omega arith)
+        ∙ ap negsuc (let z : 255 - (256 + sampleOffset - a) ≡ a - suc sampleOffset = omega arith in z)
+        ∙ sym (sub-neg sampleOffset a (a - suc sampleOffset) (omega arith))
+
+pub greatest-from : (a : ℕ) → 1 ≤ a → a ≤ 256 → greatestFrom a ≡ subℕ a greatestOffset
+greatest-from a p q = ⊎-elim low high (le-or-lt greatestOffset a)
+  where
+    raised : ℕ
+    raised = a + (256 - greatestOffset)
+
+    low : greatestOffset ≤ a → greatestFrom a ≡ subℕ a greatestOffset
+    low h =
+        ap signedOf (let z : raised % 256 ≡ a - greatestOffset = omega arith in z)
+        ∙ signed-low (a - greatestOffset) (omega arith)
+        ∙ sym (sub-pos a greatestOffset (a - greatestOffset) (omega arith))
+
+    high : a < greatestOffset → greatestFrom a ≡ subℕ a greatestOffset
+    high h =
+        ap signedOf (let z : raised % 256 ≡ raised = omega arith in z)
+        ∙ signed-high raised (omega arith)
+        ∙ ap negsuc (let z : 255 - raised ≡ sampleOffset - a = omega arith in z)
+        ∙ sym (sub-neg a greatestOffset (sampleOffset - a) (omega arith))
 
 -- so the sample kept is read back from its code
 pub kept-read : {rule : ℤ → ℤ → ℤ} {code : ℤ → ℕ} {value : ℕ → ℤ} → Coding rule code value → (from : ℕ → ℤ) → ((a : ℕ) → 1 ≤ a → a ≤ 256 → from a ≡ value a)

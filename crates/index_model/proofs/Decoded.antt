@@ -15,7 +15,7 @@ use Rattle.totals.specs.Total.{sumOf, squaresOf, keptOf, noTotal, totalOf}
 use Rattle.totals.proofs.Samples.{Bytes, bytes-append}
 use Rattle.index_model.specs.declared.Opening.{Opening}
 use Rattle.index_model.specs.Records.{secondOf, hasOrigin, hasError, channelSamples}
-use Rattle.index_model.specs.Cells.{width}
+use Rattle.index_model.specs.Cells.{width, channelCell, sampleOffset}
 use Rattle.index_model.specs.Calls.{fullCount, leastFrom, greatestFrom, channelShown, totalFrom, keptFrom, secondShown}
 use Rattle.index_model.specs.Ledger.{Ledger, recordIn, recordsOf, countOf, totalsOver, ledgerSecond}
 use Rattle.index_model.proofs.Totals.{cellTotal}
@@ -66,10 +66,10 @@ module _ (o : Opening) (c : ℕ) where
   -- what the cells of a second hold for the channel, and the total that they say
   pub record Holds (r : List (List ℕ)) (second : List ℕ) : Type 0 where
     pub records : getD second 0 0 ≡ length r
-    pub sum : getD second (4 * c) 0 ≡ sumCode (flatMap (channelSamples c) r)
-    pub squares : getD second (4 * c + 1) 0 ≡ squaresOf (flatMap (channelSamples c) r)
-    pub least : getD second (4 * c + 2) 0 ≡ topCode leastCode (flatMap (channelSamples c) r)
-    pub greatest : getD second (4 * c + 3) 0 ≡ topCode greatestCode (flatMap (channelSamples c) r)
+    pub sum : getD second (channelCell c 0) 0 ≡ sumCode (flatMap (channelSamples c) r)
+    pub squares : getD second (channelCell c 1) 0 ≡ squaresOf (flatMap (channelSamples c) r)
+    pub least : getD second (channelCell c 2) 0 ≡ topCode leastCode (flatMap (channelSamples c) r)
+    pub greatest : getD second (channelCell c 3) 0 ≡ topCode greatestCode (flatMap (channelSamples c) r)
 
   total-decoded : (r : List (List ℕ)) → AllSound o r → (second : List ℕ) → Holds r second → totalFrom (getD second 0 0 * perRecord o) second c ≡ totalOf (flatMap (channelSamples c) r)
   unfolding totalFrom totalOf sumOf squaresOf keptOf flatMap
@@ -79,8 +79,8 @@ module _ (o : Opening) (c : ℕ) where
       ∙ (λ t. record {
         sum = sums t;
         squares = e .squares t;
-        least = kept-read least-coding leastFrom least-from l signed some (getD second (4 * c + 2) 0) (e .least) t;
-        greatest = kept-read greatest-coding greatestFrom greatest-from l signed some (getD second (4 * c + 3) 0) (e .greatest) t;
+        least = kept-read least-coding leastFrom least-from l signed some (getD second (channelCell c 2) 0) (e .least) t;
+        greatest = kept-read greatest-coding greatestFrom greatest-from l signed some (getD second (channelCell c 3) 0) (e .greatest) t;
       })
     where
       l : List ℤ
@@ -95,10 +95,10 @@ module _ (o : Opening) (c : ℕ) where
       size : getD second 0 0 * perRecord o ≡ length l
       size = ap (λ (n : ℕ). n * perRecord o) (e .records) ∙ sym (joined-length (b ∷ r) h)
 
-      sums : pos (getD second (4 * c) 0) -ℤ pos (128 * (getD second 0 0 * perRecord o)) ≡ sumOf l
+      sums : pos (getD second (channelCell c 0) 0) -ℤ pos (sampleOffset * (getD second 0 0 * perRecord o)) ≡ sumOf l
       sums =
-          minus-sub (getD second (4 * c) 0) (128 * (getD second 0 0 * perRecord o))
-          ∙ (λ t. subℕ (e .sum t) (128 * size t))
+          minus-sub (getD second (channelCell c 0) 0) (sampleOffset * (getD second 0 0 * perRecord o))
+          ∙ (λ t. subℕ (e .sum t) (sampleOffset * size t))
           ∙ sym (sum-decoded l signed)
 
 -- ## a second
@@ -121,10 +121,10 @@ module _ (o : Opening) (L : Ledger) (sound : SoundLedger o L) (s : ℕ) where
   channel-holds c p q =
       record {
         records = at 0 (omega arith) (measures-records o);
-        sum = (λ t. getD secondCells ((let z : 4 * c ≡ 4 * c + 0 = omega arith in z) t) 0) ∙ at (4 * c + 0) (omega arith) (measures-sum o c p q);
-        squares = at (4 * c + 1) (omega arith) (measures-squares o c p q);
-        least = at (4 * c + 2) (omega arith) (measures-least o c p q);
-        greatest = at (4 * c + 3) (omega arith) (measures-greatest o c p q);
+        sum = at (channelCell c 0) (omega arith) (measures-sum o c p q);
+        squares = at (channelCell c 1) (omega arith) (measures-squares o c p q);
+        least = at (channelCell c 2) (omega arith) (measures-least o c p q);
+        greatest = at (channelCell c 3) (omega arith) (measures-greatest o c p q);
       }
 
   channel-decoded : (c : ℕ) → 1 ≤ c → c ≤ 4 → totalFrom (getD secondCells 0 0 * perRecord o) secondCells c ≡ totalOf (flatMap (channelSamples c) held)

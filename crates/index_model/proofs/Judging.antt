@@ -11,7 +11,6 @@ use lib.Dec.{eqb, leb}
 use lib.ListN.{getD, length}
 use borrow.Author.Tests.{le-leb, lt-leb, leb-false, not-false, eq-eqb}
 use Rattle.lists.proofs.Order.{le-or-lt}
-use Rattle.header.specs.Header.{headerOf}
 use Rattle.answers.specs.Answer.{accepted, unless}
 use Rattle.record.specs.Record.{recordRefusal}
 use Rattle.answers.specs.Refusal.{Check, _when_, first, _then_}
@@ -20,10 +19,10 @@ use Rattle.index_model.specs.declared.Opening.{Opening}
 use Rattle.index_model.specs.Records.{numberOf, secondOf}
 use Rattle.index_model.specs.Second.{noSecond}
 use Rattle.index_model.specs.Cells.{width, cell, blockAt, flag, rowWithin, cellFrom}
+use Rattle.index_model.specs.Buffers.{Buffers}
 use Rattle.index_model.specs.Opening.{limitsWrong, heldWrong, openingRefusal, otherReel, isOutside, inWindow, placeOf}
 use Rattle.index_model.specs.Calls.{fullCount, isFull, insertRefusal, removeRefusal, queryRefusal, queryAnswer, secondShown, rowsInside, cellsRight, secondsRight, isConsistent, consistencyAnswer}
 use Rattle.index_model.specs.Ledger.{Ledger, withEntry, isHeld, recordsOf, perSecond, ledgerFull, ledgerInsert, ledgerRemove, ledgerQuery, ledgerSecond}
-use Rattle.index_model.specs.History.{Cells}
 use Rattle.index_model.proofs.Blocks.{block-cells}
 use Rattle.index_model.proofs.Rows.{rowFor, row-records, row-second}
 use Rattle.index_model.proofs.Totals.{share, cellTotal, share-count, passed}
@@ -53,7 +52,7 @@ module _ (o : Opening) (L : Ledger) where
         sound =
             record {
               accepted = both .0;
-              rate = same-rate o (headerOf b) (at 0);
+              rate = same-rate o b (at 0);
               window = not-false (inWindow o (secondOf b)) (at 2);
             };
         above = in-range o (numberOf b) (at 1) .0;
@@ -63,7 +62,7 @@ module _ (o : Opening) (L : Ledger) where
     where
       checks : List Check
       checks =
-          15 when otherReel o (headerOf b)
+          15 when otherReel o b
           ∷ 16 when isOutside o (numberOf b)
           ∷ 17 when not (inWindow o (secondOf b))
           ∷ 18 when ledgerFull o L (numberOf b) (secondOf b)
@@ -81,7 +80,7 @@ module _ (o : Opening) (L : Ledger) where
 
 -- ## by the cells
 
-module _ (o : Opening) (fine : limitsWrong o || heldWrong o ≡ false) (L : Ledger) (c : Cells) (regular : Regular o L) (agree : Agree o L c) where
+module _ (o : Opening) (fine : limitsWrong o || heldWrong o ≡ false) (L : Ledger) (c : Buffers) (regular : Regular o L) (agree : Agree o L c) where
   abbrev F : ℕ
   F = o .«first_second»
 
@@ -91,14 +90,14 @@ module _ (o : Opening) (fine : limitsWrong o || heldWrong o ≡ false) (L : Ledg
   abbrev R : ℕ
   R = o .«highest_number»
 
-  pub opening-accepted : openingRefusal o (length (c .rows)) (length (c .seconds)) ≡ 0
-  opening-accepted = opening-fine o (length (c .rows)) (length (c .seconds)) fine (agree .rows-long) (agree .seconds-long)
+  pub opening-accepted : openingRefusal o c ≡ 0
+  opening-accepted = opening-fine o c fine (agree .rows-long) (agree .seconds-long)
 
   -- the records of other numbers in a second
   pub others-count : (n s : ℕ) → 0 < n → n ≤ R → length (recordsOf (withEntry L n none) s R) ≡ cellTotal (withEntry L n none) s 0 R
   others-count n s p q = sym (measured (measures-records o) (withEntry L n none) (regular-without o L regular n p q .sound) s R)
 
-  full-is : (n s : ℕ) → isOutside o n ≡ false → not (inWindow o s) ≡ false → isFull o n s (c .rows) (c .seconds) ≡ ledgerFull o L n s
+  full-is : (n s : ℕ) → isOutside o n ≡ false → not (inWindow o s) ≡ false → isFull o (n - 1) s c ≡ ledgerFull o L n s
   unfolding isFull ledgerFull
   full-is n s e e' =
       (λ t. leb (fullCount o + own t) (count t))
@@ -120,22 +119,22 @@ module _ (o : Opening) (fine : limitsWrong o || heldWrong o ≡ false) (L : Ledg
       own : flag (rowWithin (c .rows) (n - 1) s) ≡ share s 0 (L n)
       own = (λ t. flag (old-within o L c agree n (range .0) (range .1) s t)) ∙ sym (share-count s (L n))
 
-  pub put-judged : (b : List ℕ) → insertRefusal o b (c .rows) (c .seconds) ≡ ledgerInsert o L b
+  pub put-judged : (b : List ℕ) → insertRefusal o b c ≡ ledgerInsert o L b
   unfolding insertRefusal ledgerInsert
   put-judged b =
       ap (λ (x : ℕ). recordRefusal b then x)
       (then-none _ _ opening-accepted
-      ∙ ap (λ (x : ℕ). cond (otherReel o (headerOf b)) 15 x)
+      ∙ ap (λ (x : ℕ). cond (otherReel o b) 15 x)
       (by-tests (isOutside o (numberOf b)) refl (not (inWindow o (secondOf b))) refl))
     where
       by-tests : (t : Bool) → isOutside o (numberOf b) ≡ t → (u : Bool) → not (inWindow o (secondOf b)) ≡ u
-          → first (16 when t ∷ 17 when u ∷ 18 when isFull o (numberOf b) (secondOf b) (c .rows) (c .seconds) ∷ [])
+          → first (16 when t ∷ 17 when u ∷ 18 when isFull o (numberOf b - 1) (secondOf b) c ∷ [])
           ≡ first (16 when t ∷ 17 when u ∷ 18 when ledgerFull o L (numberOf b) (secondOf b) ∷ [])
       by-tests true et u eu = refl
       by-tests false et true eu = refl
       by-tests false et false eu = λ i. cond (full-is (numberOf b) (secondOf b) et eu i) 18 0
 
-  pub take-judged : (n : ℕ) → removeRefusal o n (c .rows) (c .seconds) ≡ ledgerRemove o L n
+  pub take-judged : (n : ℕ) → removeRefusal o n c ≡ ledgerRemove o L n
   unfolding removeRefusal ledgerRemove
   take-judged n = then-none _ _ opening-accepted ∙ by-test (isOutside o n) refl
     where
@@ -165,7 +164,7 @@ module _ (o : Opening) (fine : limitsWrong o || heldWrong o ≡ false) (L : Ledg
       z : F + (s - F) ≡ s
       z = omega (arith, w .0)
 
-  pub ask-answered : (s : ℕ) → queryAnswer o s (c .rows) (c .seconds) ≡ ledgerQuery o L s
+  pub ask-answered : (s : ℕ) → queryAnswer o s c ≡ ledgerQuery o L s
   unfolding queryAnswer queryRefusal ledgerQuery
   ask-answered s =
       ap (λ (x : ℕ). unless x noSecond (secondShown o (blockAt (c .seconds) (placeOf o s)))) (then-none _ _ opening-accepted)
@@ -188,7 +187,7 @@ module _ (o : Opening) (fine : limitsWrong o || heldWrong o ≡ false) (L : Ledg
       by-entry none h = refl
       by-entry (some b) h = (λ t. eqb (row-records b t) 0 || inWindow o (row-second b t)) ∙ h b refl .window
 
-  cells-right : (k : ℕ) → k < C → (m : ℕ) → m ≤ width → cellsRight o (c .rows) (c .seconds) k m ≡ true
+  cells-right : (k : ℕ) → k < C → (m : ℕ) → m ≤ width → cellsRight o c k m ≡ true
   unfolding cellsRight
   cells-right k hk zero q = refl
   cells-right k hk (suc j) q =
@@ -196,15 +195,15 @@ module _ (o : Opening) (fine : limitsWrong o || heldWrong o ≡ false) (L : Ledg
       ∙ eq-eqb (cell (c .seconds) k j) (cellFrom (c .rows) (F + k) j R)
       (agree .seconds-are k hk j (omega arith) ∙ sym (passed R L (c .rows) (agree .rows-are) (F + k) j (omega arith) R (omega arith) (few-fit o L regular (F + k) j)))
 
-  seconds-right : (m : ℕ) → m ≤ C → secondsRight o (c .rows) (c .seconds) m ≡ true
+  seconds-right : (m : ℕ) → m ≤ C → secondsRight o c m ≡ true
   unfolding secondsRight
   seconds-right zero q = refl
   seconds-right (suc k) q = λ t. seconds-right k (omega arith) t && cells-right k (omega arith) width (omega arith) t
 
-  pub consistent : isConsistent o (c .rows) (c .seconds) ≡ true
+  pub consistent : isConsistent o c ≡ true
   unfolding isConsistent
   consistent = λ t. rows-inside R (omega arith) t && seconds-right C (omega arith) t
 
-  pub test-answered : consistencyAnswer o (c .rows) (c .seconds) ≡ accepted true
+  pub test-answered : consistencyAnswer o c ≡ accepted true
   unfolding consistencyAnswer
   test-answered = λ t. unless (opening-accepted t) false (consistent t)

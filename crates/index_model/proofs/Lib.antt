@@ -1,13 +1,13 @@
 pub mod Blocks
 pub mod Merges
 pub mod Rows
+pub mod Limits
 pub mod Totals
 pub mod Differences
 pub mod Codes
 pub mod Sound
 pub mod Measures
 pub mod Decoded
-pub mod Limits
 pub mod Seconds
 pub mod Agreement
 pub mod Changes

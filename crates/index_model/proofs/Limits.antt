@@ -1,68 +1,105 @@
--- What the tests of an opening give: the window, the range of numbers, the limits; and that a second never has more than 50
--- records. Assumes nothing.
+-- What the tests of an opening give: the window, the range of numbers, the limits; and the most records that a second can have.
+-- Assumes nothing.
 use Prim.Native.Nat.{ℕ, _+_, _*_, _<_, _≤_}
 use mathlib.Core.Path.{_≡_}
 use mathlib.Core.Bool.{Bool, true, false, cond, _&&_, _||_}
 use mathlib.Core.List.{List, [], _∷_}
 use native.Mathlib.Omega.{arith}
 use lib.Dec.{T, eqb, ltb, leb, leb→le, ltb→lt}
+use lib.ListN.{length}
 use borrow.Author.Tests.{eqb-true, eqb-false, ltb-false, le-ltb, not-false}
 use Rattle.lists.proofs.Truth.{left, right, held, or-false}
-use Rattle.header.specs.declared.Header.{Header}
+use Rattle.fields.specs.Field.{valueOf}
+use Rattle.header.specs.Rows.{sampleRate}
+use Rattle.answers.specs.Refusal.{_when_}
+use Rattle.answers.proofs.Refusals.{none-applies}
 use Rattle.sample_rates.specs.declared.SampleRate.{SampleRate}
 use Rattle.sample_rates.specs.Rates.{rates, lineIn, sampleRateOf, recordsPerSecond}
 use Rattle.index_model.specs.declared.Opening.{Opening}
 use Rattle.index_model.specs.Cells.{width}
-use Rattle.index_model.specs.Opening.{limitsWrong, heldWrong, tooSmall, openingRefusal, otherReel, isOutside, inWindow}
+use Rattle.index_model.specs.Buffers.{Buffers}
+use Rattle.index_model.specs.Limits.{WithinLimits}
+use Rattle.index_model.specs.Opening.{highestLimit, daySeconds, limitsWrong, heldWrong, tooSmall, openingRefusal, otherReel, isOutside, inWindow}
 use Rattle.index_model.specs.Calls.{fullCount}
 
 module _ (o : Opening) where
+  abbrev F : ℕ
+  F = o .«first_second»
+
+  abbrev C : ℕ
+  C = o .«second_count»
+
+  abbrev R : ℕ
+  R = o .«highest_number»
+
   pub in-window : (s : ℕ) → inWindow o s ≡ true → (o .«first_second» ≤ s) × (s < o .«first_second» + o .«second_count»)
   unfolding inWindow
   in-window s e =
       (leb→le F s (left (leb F s) (ltb s (F + C)) (held (inWindow o s) e)), ltb→lt s (F + C) (right (leb F s) (ltb s (F + C)) (held (inWindow o s) e)))
-    where
-      F : ℕ
-      F = o .«first_second»
-
-      C : ℕ
-      C = o .«second_count»
 
   pub in-range : (n : ℕ) → isOutside o n ≡ false → (0 < n) × (n ≤ o .«highest_number»)
   unfolding isOutside
   in-range n e =
-      let t = or-false (eqb n 0) (ltb (o .«highest_number») n) e in
+      let t = or-false (eqb n 0) (ltb R n) e in
       let z : n ≡ 0 → ⊥ = eqb-false n 0 (t .0) in
-      (omega (arith, z), ltb-false (o .«highest_number») n (t .1))
+      (omega (arith, z), ltb-false R n (t .1))
 
-  pub same-rate : (h : Header) → otherReel o h ≡ false → h .«sample_rate_hz» ≡ o .«sample_rate_hz»
+  pub same-rate : (b : List ℕ) → otherReel o b ≡ false → valueOf sampleRate b ≡ o .«sample_rate_hz»
   unfolding otherReel
-  same-rate h e =
-      eqb-true (h .«sample_rate_hz») (o .«sample_rate_hz»)
+  same-rate b e =
+      eqb-true (valueOf sampleRate b) (o .«sample_rate_hz»)
       (not-false _ (or-false _ _ (or-false _ _ (or-false _ _ (or-false _ _ (or-false _ _ e .0) .0) .0) .0) .0))
 
-  -- an opening within its limits is refused by no call whose buffers are long enough
-  pub opening-fine : (rows seconds : ℕ) → limitsWrong o || heldWrong o ≡ false → width * o .«highest_number» ≤ rows → width * o .«second_count» ≤ seconds → openingRefusal o rows seconds ≡ 0
-  unfolding openingRefusal tooSmall
-  opening-fine rows seconds e p q =
-      λ t. cond (e t) 13 (cond (le-ltb rows (width * o .«highest_number») p t || le-ltb seconds (width * o .«second_count») q t) 14 0)
+  module _ (c : Buffers) where
+    -- buffers that 14 does not refuse have the cells
+    pub enough : tooSmall o c ≡ false → (width * o .«highest_number» ≤ length (c .rows)) × (width * o .«second_count» ≤ length (c .seconds))
+    unfolding tooSmall
+    enough e =
+        let t = or-false (ltb (length (c .rows)) (width * R)) (ltb (length (c .seconds)) (width * C)) e in
+        (ltb-false (length (c .rows)) (width * R) (t .0), ltb-false (length (c .seconds)) (width * C) (t .1))
+
+    -- what 13 and 14 leave
+    pub within-limits : openingRefusal o c ≡ 0 → WithinLimits o c
+    unfolding openingRefusal limitsWrong
+    within-limits e =
+        let checks = 13 when (limitsWrong o || heldWrong o) ∷ 14 when tooSmall o c ∷ [] in
+        let limits = or-false (limitsWrong o) (heldWrong o) (none-applies checks 0 tt e) .0 in
+        let a = or-false (eqb R 0 || ltb highestLimit R || eqb C 0 || ltb daySeconds C) (ltb daySeconds (F + C)) limits in
+        let b = or-false (eqb R 0 || ltb highestLimit R || eqb C 0) (ltb daySeconds C) (a .0) in
+        let c' = or-false (eqb R 0 || ltb highestLimit R) (eqb C 0) (b .0) in
+        let cells = enough (none-applies checks 1 tt e) in
+        record {
+          day = ltb-false daySeconds (F + C) (a .1);
+          numbers = ltb-false highestLimit R (or-false (eqb R 0) (ltb highestLimit R) (c' .0) .1);
+          rows-long = cells .0;
+          seconds-long = cells .1;
+        }
+
+    -- an opening within its limits is refused by no call whose buffers are long enough
+    pub opening-fine : limitsWrong o || heldWrong o ≡ false → width * o .«highest_number» ≤ length (c .rows) → width * o .«second_count» ≤ length (c .seconds) → openingRefusal o c ≡ 0
+    unfolding openingRefusal tooSmall
+    opening-fine e p q =
+        λ t. cond (e t) 13 (cond (le-ltb (length (c .rows)) (width * R) p t || le-ltb (length (c .seconds)) (width * C) q t) 14 0)
 
 -- ## L
+
+abbrev pub mostRecords : ℕ
+mostRecords = 50
 
 -- the one computed test of the table of rates
 mostIn : List SampleRate → Bool
 mostIn [] = true
-mostIn (l ∷ ls) = leb (recordsPerSecond l) 50 && mostIn ls
+mostIn (l ∷ ls) = leb (recordsPerSecond l) mostRecords && mostIn ls
 
-line-most : (ls : List SampleRate) (hz : ℕ) → T (mostIn ls) → recordsPerSecond (lineIn ls hz) ≤ 50
+line-most : (ls : List SampleRate) (hz : ℕ) → T (mostIn ls) → recordsPerSecond (lineIn ls hz) ≤ mostRecords
 unfolding lineIn mostIn
 line-most [] hz t = omega arith
-line-most (l ∷ ls) hz t = by-test (eqb (l .hz) hz) (line-most ls hz (right (leb (recordsPerSecond l) 50) (mostIn ls) t))
+line-most (l ∷ ls) hz t = by-test (eqb (l .hz) hz) (line-most ls hz (right (leb (recordsPerSecond l) mostRecords) (mostIn ls) t))
   where
-    by-test : (b : Bool) → recordsPerSecond (lineIn ls hz) ≤ 50 → recordsPerSecond (cond b l (lineIn ls hz)) ≤ 50
-    by-test true r = leb→le (recordsPerSecond l) 50 (left (leb (recordsPerSecond l) 50) (mostIn ls) t)
+    by-test : (b : Bool) → recordsPerSecond (lineIn ls hz) ≤ mostRecords → recordsPerSecond (cond b l (lineIn ls hz)) ≤ mostRecords
+    by-test true r = leb→le (recordsPerSecond l) mostRecords (left (leb (recordsPerSecond l) mostRecords) (mostIn ls) t)
     by-test false r = r
 
-pub full-most : (o : Opening) → fullCount o ≤ 50
+pub full-most : (o : Opening) → fullCount o ≤ mostRecords
 unfolding sampleRateOf mostIn
 full-most o = line-most rates _ tt

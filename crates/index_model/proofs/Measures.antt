@@ -12,7 +12,7 @@ use Rattle.totals.specs.Total.{squaresOf}
 use Rattle.totals.proofs.Sums.{squares-append}
 use Rattle.index_model.specs.declared.Opening.{Opening}
 use Rattle.index_model.specs.Records.{secondOf, hasOrigin, hasError, channelSamples}
-use Rattle.index_model.specs.Cells.{rowOf, flag, isGreatest}
+use Rattle.index_model.specs.Cells.{channelCell, rowOf, flag, isGreatest}
 use Rattle.index_model.specs.Ledger.{Ledger, recordIn, recordsOf, countOf}
 use Rattle.index_model.proofs.Merges.{plainBy, plain-sum}
 use Rattle.index_model.proofs.Rows.{row-records, row-origin, row-error, channel-kind}
@@ -90,7 +90,7 @@ flat-one f b = append-nil (f b)
 
 module _ (o : Opening) (c : ℕ) (p : 1 ≤ c) (q : c ≤ 4) where
   -- a code of samples that cell i of the channel's four holds
-  measures-code : (i : ℕ) → i < 4 → (code : List ℤ → ℕ) → code [] ≡ 0 → ((l k : List ℤ) → code (l ++ k) ≡ plainBy (ltb 1 i) (code l) (code k)) → ((l : List ℤ) → getD (codes l) i 0 ≡ code l) → Measures o (4 * c + i) (λ (r : List (List ℕ)). code (flatMap (channelSamples c) r))
+  measures-code : (i : ℕ) → i < 4 → (code : List ℤ → ℕ) → code [] ≡ 0 → ((l k : List ℤ) → code (l ++ k) ≡ plainBy (ltb 1 i) (code l) (code k)) → ((l : List ℤ) → getD (codes l) i 0 ≡ code l) → Measures o (channelCell c i) (λ (r : List (List ℕ)). code (flatMap (channelSamples c) r))
   unfolding flatMap
   measures-code i h code zeroes joined is =
       record {
@@ -103,18 +103,18 @@ module _ (o : Opening) (c : ℕ) (p : 1 ≤ c) (q : c ≤ 4) where
         single = λ b s. row-codes b (s .accepted) c i p q h ∙ is (channelSamples c b) ∙ ap code (sym (flat-one (channelSamples c) b));
       }
 
-  pub measures-sum : Measures o (4 * c + 0) (λ (r : List (List ℕ)). sumCode (flatMap (channelSamples c) r))
+  pub measures-sum : Measures o (channelCell c 0) (λ (r : List (List ℕ)). sumCode (flatMap (channelSamples c) r))
   unfolding plainBy sumCode
   measures-sum = measures-code 0 (omega arith) sumCode refl sum-code-append (λ l. refl)
 
-  pub measures-squares : Measures o (4 * c + 1) (λ (r : List (List ℕ)). squaresOf (flatMap (channelSamples c) r))
+  pub measures-squares : Measures o (channelCell c 1) (λ (r : List (List ℕ)). squaresOf (flatMap (channelSamples c) r))
   unfolding plainBy squaresOf
   measures-squares = measures-code 1 (omega arith) squaresOf refl squares-append (λ l. refl)
 
-  pub measures-least : Measures o (4 * c + 2) (λ (r : List (List ℕ)). topCode leastCode (flatMap (channelSamples c) r))
+  pub measures-least : Measures o (channelCell c 2) (λ (r : List (List ℕ)). topCode leastCode (flatMap (channelSamples c) r))
   unfolding plainBy topCode
   measures-least = measures-code 2 (omega arith) (topCode leastCode) refl (top-append leastCode) (λ l. refl)
 
-  pub measures-greatest : Measures o (4 * c + 3) (λ (r : List (List ℕ)). topCode greatestCode (flatMap (channelSamples c) r))
+  pub measures-greatest : Measures o (channelCell c 3) (λ (r : List (List ℕ)). topCode greatestCode (flatMap (channelSamples c) r))
   unfolding plainBy topCode
   measures-greatest = measures-code 3 (omega arith) (topCode greatestCode) refl (top-append greatestCode) (λ l. refl)

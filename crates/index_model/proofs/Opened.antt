@@ -1,29 +1,32 @@
 -- An accepted opening: no later call refuses what it returned, and its cells agree with the empty ledger. Assumes nothing.
 use Prim.Native.Nat.{ℕ, zero, suc, _+_, _*_, _≤_}
-use mathlib.Core.Path.{_≡_, refl, ap, sym, _∙_}
+use mathlib.Core.Path.{_≡_, refl, ap, sym, _∙_, subst}
 use mathlib.Core.Bool.{false, _||_}
 use mathlib.Core.List.{List, [], _∷_}
 use native.Mathlib.Omega.{arith}
-use lib.Dec.{eqb, ltb}
+use lib.Dec.{eqb}
 use lib.ListN.{getD, length}
-use borrow.Author.Tests.{ltb-false}
-use Rattle.lists.specs.Fill.{over}
 use Rattle.lists.proofs.Fill.{over-low, length-over}
 use Rattle.lists.proofs.Truth.{or-false}
 use Rattle.fields.specs.Table.{allDigitsGood}
-use Rattle.header.specs.Format.{fields}
-use Rattle.header.specs.Header.{headerOf}
+use Rattle.fields.specs.Field.{valueOf}
+use Rattle.header.specs.Format.{fields1985}
+use Rattle.header.specs.Rows.{tapeNumber, recordNumber}
+use Rattle.checks.specs.declared.Judged.{Judged}
+use Rattle.checks.specs.Checks.{checks, judgedOf}
 use Rattle.answers.specs.Answer.{Answer}
-use Rattle.record.specs.Record.{checks, recordRefusal}
+use Rattle.record.specs.Record.{recordRefusal}
 use Rattle.answers.specs.Refusal.{_when_, first}
 use Rattle.answers.proofs.Refusals.{noCheck, none-applies, then-zero, unless-none, cond-none}
 use Rattle.index_model.specs.declared.Opening.{Opening}
 use Rattle.index_model.specs.Cells.{width, cell, isGreatest}
-use Rattle.index_model.specs.Opening.{limitsWrong, heldWrong, tooSmall, openingOf, noOpening, openRefusal, openAnswer, openRows, openSeconds}
+use Rattle.index_model.specs.Buffers.{Buffers}
+use Rattle.index_model.specs.Opening.{limitsWrong, heldWrong, tooSmall, openingOf, noOpening, cleared, openRefusal, openAnswer, opened}
 use Rattle.index_model.specs.Ledger.{noRecords}
 use Rattle.index_model.proofs.Merges.{plainBy, plain-none}
 use Rattle.index_model.proofs.Rows.{no-row}
 use Rattle.index_model.proofs.Totals.{share, cellTotal}
+use Rattle.index_model.proofs.Limits.{enough}
 use Rattle.index_model.proofs.Agreement.{Regular, Agree}
 
 nothing-held : (s j m : ℕ) → cellTotal noRecords s j m ≡ 0
@@ -42,56 +45,48 @@ regular-empty o =
 held-fine : (pattern : List ℕ) (F C R : ℕ) → recordRefusal pattern ≡ 0 → heldWrong (openingOf pattern F C R) ≡ false
 unfolding recordRefusal heldWrong
 held-fine pattern F C R e =
-    λ t. at 4 t || or-false (eqb (headerOf pattern .«tape_number») 0) (eqb (headerOf pattern .«record_number») 0) (at 6) .0 t || at 7 t
+    λ t. at 4 t || or-false (eqb (valueOf tapeNumber pattern) 0) (eqb (valueOf recordNumber pattern) 0) (at 6) .0 t || at 7 t
   where
-    at : (k : ℕ) → getD (checks (length pattern) (headerOf pattern) (allDigitsGood fields pattern)) k noCheck .applies ≡ false
-    at k = none-applies (checks (length pattern) (headerOf pattern) (allDigitsGood fields pattern)) k tt e
+    judged : Judged
+    judged = judgedOf (length pattern) (λ f. valueOf f pattern) (allDigitsGood fields1985 pattern)
 
-module _ (pattern : List ℕ) (F C R : ℕ) (rows seconds : List ℕ) (e : openRefusal pattern F C R rows seconds ≡ 0) where
+    at : (k : ℕ) → getD (checks judged) k noCheck .applies ≡ false
+    at k = none-applies (checks judged) k tt e
+
+module _ (pattern : List ℕ) (F C R : ℕ) (c : Buffers) (e : openRefusal pattern F C R c ≡ 0) where
   abbrev o : Opening
   o = openingOf pattern F C R
 
-  limits : (recordRefusal pattern ≡ 0) × (first (13 when limitsWrong o ∷ 14 when tooSmall o (length rows) (length seconds) ∷ []) ≡ 0)
+  limits : (recordRefusal pattern ≡ 0) × (first (13 when limitsWrong o ∷ 14 when tooSmall o c ∷ []) ≡ 0)
   unfolding openRefusal
-  limits = then-zero (recordRefusal pattern) (first (13 when limitsWrong o ∷ 14 when tooSmall o (length rows) (length seconds) ∷ [])) e
+  limits = then-zero (recordRefusal pattern) (first (13 when limitsWrong o ∷ 14 when tooSmall o c ∷ [])) e
 
-  at : (k : ℕ) → getD (13 when limitsWrong o ∷ 14 when tooSmall o (length rows) (length seconds) ∷ []) k noCheck .applies ≡ false
-  at k = none-applies (13 when limitsWrong o ∷ 14 when tooSmall o (length rows) (length seconds) ∷ []) k tt (limits .1)
+  at : (k : ℕ) → getD (13 when limitsWrong o ∷ 14 when tooSmall o c ∷ []) k noCheck .applies ≡ false
+  at k = none-applies (13 when limitsWrong o ∷ 14 when tooSmall o c ∷ []) k tt (limits .1)
 
   pub fine : limitsWrong o || heldWrong o ≡ false
   fine = λ t. at 0 t || held-fine pattern F C R (limits .0) t
 
-  long : (width * R ≤ length rows) × (width * C ≤ length seconds)
-  unfolding tooSmall
-  long =
-      let t = or-false (ltb (length rows) (width * R)) (ltb (length seconds) (width * C)) (at 1) in
-      (ltb-false (length rows) (width * R) (t .0), ltb-false (length seconds) (width * C) (t .1))
+  pub long : (width * R ≤ length (c .rows)) × (width * C ≤ length (c .seconds))
+  long = enough o c (at 1)
 
-  pub returned : openAnswer pattern F C R rows seconds .value ≡ o
+  pub returned : openAnswer pattern F C R c .value ≡ o
   unfolding openAnswer
-  returned = sym (ap (λ (a : Answer Opening). a .value) (unless-none (openRefusal pattern F C R rows seconds) noOpening o e))
+  returned = sym (ap (λ (a : Answer Opening). a .value) (unless-none (openRefusal pattern F C R c) noOpening o e))
 
-  rows-cleared : openRows pattern F C R rows seconds ≡ over rows (λ (k : ℕ). 0) (width * R)
-  unfolding openRows
-  rows-cleared = cond-none (openRefusal pattern F C R rows seconds) rows (over rows (λ (k : ℕ). 0) (width * R)) e
+  pub is-cleared : opened pattern F C R c ≡ cleared C R c
+  unfolding opened
+  is-cleared = cond-none (openRefusal pattern F C R c) c (cleared C R c) e
 
-  seconds-cleared : openSeconds pattern F C R rows seconds ≡ over seconds (λ (k : ℕ). 0) (width * C)
-  unfolding openSeconds
-  seconds-cleared = cond-none (openRefusal pattern F C R rows seconds) seconds (over seconds (λ (k : ℕ). 0) (width * C)) e
-
-  pub opened-agrees : Agree o noRecords (record { rows = openRows pattern F C R rows seconds; seconds = openSeconds pattern F C R rows seconds })
-  opened-agrees =
+  cleared-agrees : Agree o noRecords (cleared C R c)
+  cleared-agrees =
       record {
-        rows-long = omega (arith, ap length rows-cleared, length-over rows (λ (k : ℕ). 0) (width * R) (long .0), long .0);
-        seconds-long = omega (arith, ap length seconds-cleared, length-over seconds (λ (k : ℕ). 0) (width * C) (long .1), long .1);
-        rows-are =
-            λ i hi j hj.
-            (λ t. cell (rows-cleared t) i j)
-            ∙ over-low rows (λ (k : ℕ). 0) 0 (width * R) (width * i + j) (omega arith)
-            ∙ sym (no-row j hj);
+        rows-long = omega (arith, length-over (c .rows) (λ (k : ℕ). 0) (width * R) (long .0), long .0);
+        seconds-long = omega (arith, length-over (c .seconds) (λ (k : ℕ). 0) (width * C) (long .1), long .1);
+        rows-are = λ i hi j hj. over-low (c .rows) (λ (k : ℕ). 0) 0 (width * R) (width * i + j) (omega arith) ∙ sym (no-row j hj);
         seconds-are =
-            λ k hk j hj.
-            (λ t. cell (seconds-cleared t) k j)
-            ∙ over-low seconds (λ (k : ℕ). 0) 0 (width * C) (width * k + j) (omega arith)
-            ∙ sym (nothing-held (F + k) j R);
+            λ k hk j hj. over-low (c .seconds) (λ (k : ℕ). 0) 0 (width * C) (width * k + j) (omega arith) ∙ sym (nothing-held (F + k) j R);
       }
+
+  pub opened-agrees : Agree o noRecords (opened pattern F C R c)
+  opened-agrees = subst (Agree o noRecords) (sym is-cleared) cleared-agrees

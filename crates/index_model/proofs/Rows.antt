@@ -12,11 +12,12 @@ use borrow.Author.Tests.{ne-eqb}
 use Rattle.lists.specs.Fill.{tab}
 use Rattle.lists.proofs.Fill.{getD-tab}
 use Rattle.lists.proofs.Truth.{and-true}
+use Rattle.channels.specs.Sample.{samplesOf}
 use Rattle.totals.specs.declared.Total.{Total}
 use Rattle.totals.specs.Total.{noTotal, totalOf, totalsOf}
-use Rattle.index_model.specs.Records.{secondOf, hasOrigin, hasError, channelSamples}
-use Rattle.record.specs.Stretch.{sampleCount, stretchOf}
-use Rattle.index_model.specs.Cells.{width, channelCells, allChannelCells, flag, rowOf, noRow, isGreatest}
+use Rattle.index_model.specs.Records.{secondOf, hasOrigin, hasError}
+use Rattle.record.specs.Stretch.{stretchOf}
+use Rattle.index_model.specs.Cells.{width, channelCell, samplesIn, channelCells, allChannelCells, flag, rowOf, noRow, isGreatest}
 
 -- the row of what a number has
 abbrev pub rowFor : Option (List ℕ) → List ℕ
@@ -63,19 +64,19 @@ of-four f d (suc (suc (suc zero))) h = refl
 of-four f d (suc (suc (suc (suc k)))) h = absurd (let z : ⊥ = omega arith in z)
 
 -- the four cells of a channel (1 to 4)
-pub row-channel : (b : List ℕ) (c i : ℕ) → 1 ≤ c → c ≤ 4 → i < 4 → getD (rowOf b) (4 * c + i) 0 ≡ getD (channelCells (sampleCount b) (totalOf (channelSamples c b))) i 0
-unfolding rowOf totalsOf channelSamples
+pub row-channel : (b : List ℕ) (c i : ℕ) → 1 ≤ c → c ≤ 4 → i < 4 → getD (rowOf b) (channelCell c i) 0 ≡ getD (channelCells (samplesIn (stretchOf b)) (totalOf (samplesOf (stretchOf b) c (samplesIn (stretchOf b))))) i 0
+unfolding rowOf totalsOf
 row-channel b zero i p q r = absurd (let z : ⊥ = omega arith in z)
 row-channel b (suc k) i p q r =
     ap (λ (a : ℕ). getD (rowOf b) a 0) (let z : 4 * suc k + i ≡ suc (suc (suc (suc (4 * k + i)))) = omega arith in z)
-    ∙ at-channel (sampleCount b) (totalsOf (stretchOf b) (sampleCount b)) k i (omega arith) r
-    ∙ ap (λ (t : Total). getD (channelCells (sampleCount b) t) i 0) (of-four (λ (c : ℕ). totalOf (channelSamples c b)) noTotal k (omega arith))
+    ∙ at-channel (samplesIn (stretchOf b)) (totalsOf (stretchOf b) (samplesIn (stretchOf b))) k i (omega arith) r
+    ∙ ap (λ (t : Total). getD (channelCells (samplesIn (stretchOf b)) t) i 0) (of-four (λ (c : ℕ). totalOf (samplesOf (stretchOf b) c (samplesIn (stretchOf b)))) noTotal k (omega arith))
 
 -- the first two of a channel's four are sums, the others hold the greatest
-pub channel-kind : (c i : ℕ) → 1 ≤ c → i < 4 → isGreatest (4 * c + i) ≡ ltb 1 i
+pub channel-kind : (c i : ℕ) → 1 ≤ c → i < 4 → isGreatest (channelCell c i) ≡ ltb 1 i
 unfolding isGreatest
 channel-kind c i p q =
-    (λ t. ltb 1 ((let z : (4 * c + i) % 4 ≡ i = omega arith in z) t) && not (ne-eqb (4 * c + i) 2 (λ z. omega (arith, z)) t))
+    (λ t. ltb 1 ((let z : (channelCell c i) % 4 ≡ i = omega arith in z) t) && not (ne-eqb (channelCell c i) 2 (λ z. omega (arith, z)) t))
     ∙ and-true (ltb 1 i)
 
 -- a number that is not held has 0 in every cell

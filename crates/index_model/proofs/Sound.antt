@@ -6,20 +6,23 @@ use mathlib.Core.List.{List}
 use mathlib.Core.Option.{some}
 use mathlib.Core.Logic.{⊎-elim}
 use native.Mathlib.Omega.{arith}
-use lib.ListN.{getD, length, List·getD-eq-default}
+use lib.ListN.{getD, length, length-take, length-drop, List·getD-eq-default}
 use Rattle.lists.proofs.Fill.{length-tab}
 use Rattle.lists.proofs.Order.{le-or-lt}
-use Rattle.channels.specs.Sample.{sampleOf}
-use Rattle.header.specs.Header.{headerOf}
-use Rattle.sample_rates.specs.Rates.{sampleRateOf, samplesPerRecord}
+use Rattle.channels.specs.Sample.{sampleOf, samplesOf}
+use Rattle.fields.specs.Field.{valueOf}
+use Rattle.header.specs.Rows.{sampleRate}
+use Rattle.sample_rates.specs.Rates.{sampleRateOf, samplesPerRecord, mostSamples}
 use Rattle.record.specs.Record.{recordRefusal}
-use Rattle.record.proofs.Accepted.{record-facts}
+use Rattle.record.proofs.Count.{count-small}
+use Rattle.record.proofs.Accepted.{record-facts, stretch-inside}
+use Rattle.totals.specs.Total.{totalOf}
 use Rattle.totals.proofs.Samples.{Bytes, samples-bytes}
 use Rattle.totals.proofs.Sums.{squares-bound}
 use Rattle.index_model.specs.declared.Opening.{Opening}
 use Rattle.index_model.specs.Records.{secondOf, hasOrigin, hasError, channelSamples}
 use Rattle.record.specs.Stretch.{recordRate, sampleCount, stretchOf}
-use Rattle.index_model.specs.Cells.{width, flag, rowOf}
+use Rattle.index_model.specs.Cells.{width, channelCell, samplesIn, channelCells, flag, rowOf}
 use Rattle.index_model.specs.Opening.{inWindow}
 use Rattle.index_model.specs.Ledger.{Ledger}
 use Rattle.index_model.proofs.Rows.{row-length, row-records, row-origin, row-error, row-second, row-channel}
@@ -29,7 +32,7 @@ use Rattle.index_model.proofs.Codes.{sum-code-small, top-most, least-co
 -- a record that the index may hold: accepted, of the opening's rate, and of a second of the window
 pub record Sound (o : Opening) (b : List ℕ) : Type 0 where
   pub accepted : recordRefusal b ≡ 0
-  pub rate : headerOf b .«sample_rate_hz» ≡ o .«sample_rate_hz»
+  pub rate : valueOf sampleRate b ≡ o .«sample_rate_hz»
   pub window : inWindow o (secondOf b) ≡ true
 
 abbrev pub SoundLedger : Opening → Ledger → Type 0
@@ -65,19 +68,22 @@ module _ (b : List ℕ) (accepted : recordRefusal b ≡ 0) where
   unfolding recordRate
   count-some = record-facts b accepted .line .some
 
-  pub count-most : sampleCount b ≤ 1000
-  unfolding recordRate
-  count-most = record-facts b accepted .line .most
+  -- its bytes hold them all
+  held-all : samplesIn (stretchOf b) ≡ sampleCount b
+  unfolding stretchOf recordRate
+  held-all = simp (length-take, length-drop) (omega (arith, stretch-inside b accepted))
 
   -- the four cells of a channel (1 to 4)
-  pub row-codes : (c i : ℕ) → 1 ≤ c → c ≤ 4 → i < 4 → getD (rowOf b) (4 * c + i) 0 ≡ getD (codes (channelSamples c b)) i 0
+  pub row-codes : (c i : ℕ) → 1 ≤ c → c ≤ 4 → i < 4 → getD (rowOf b) (channelCell c i) 0 ≡ getD (codes (channelSamples c b)) i 0
+  unfolding channelSamples
   row-codes c i p q r =
       row-channel b c i p q r
+      ∙ (λ t. getD (channelCells (held-all t) (totalOf (samplesOf (stretchOf b) c (held-all t)))) i 0)
       ∙ ap (λ (l : List ℕ). getD l i 0) (cells-codes (channelSamples c b) (samples-signed b c) (sampleCount b) (samples-length b c) count-some)
 
   codes-small : (c i : ℕ) → i < 4 → getD (codes (channelSamples c b)) i 0 ≤ rowLimit
-  codes-small c zero r = omega (arith, sum-code-small (channelSamples c b) (samples-signed b c), samples-length b c, count-most)
-  codes-small c (suc zero) r = omega (arith, squares-bound (channelSamples c b) (samples-signed b c), samples-length b c, count-most)
+  codes-small c zero r = omega (arith, sum-code-small (channelSamples c b) (samples-signed b c), samples-length b c, count-small b)
+  codes-small c (suc zero) r = omega (arith, squares-bound (channelSamples c b) (samples-signed b c), samples-length b c, count-small b)
   codes-small c (suc (suc zero)) r = omega (arith, top-most least-coding (channelSamples c b) (samples-signed b c))
   codes-small c (suc (suc (suc zero))) r = omega (arith, top-most greatest-coding (channelSamples c b) (samples-signed b c))
   codes-small c (suc (suc (suc (suc i)))) r = absurd (let z : ⊥ = omega arith in z)

@@ -1,6 +1,6 @@
 -- One call: the cells agree with the ledger after it, it answers as the ledger, and it alters only what it may. Then any list
 -- of calls. Assumes nothing.
-use Prim.Native.Nat.{ℕ, suc, _+_, _/_}
+use Prim.Native.Nat.{ℕ, suc, _+_, _-_, _/_}
 use mathlib.Core.Path.{_≡_, refl, ap, sym, _∙_, subst}
 use mathlib.Core.Bool.{Bool, true, false, cond, _&&_, _||_, true≢false}
 use mathlib.Core.List.{List, [], _∷_}
@@ -11,22 +11,23 @@ use borrow.Author.Tests.{eqb-true}
 use Rattle.lists.proofs.Truth.{or-false}
 use Rattle.index_model.specs.declared.Opening.{Opening}
 use Rattle.index_model.specs.Records.{numberOf, secondOf}
-use Rattle.index_model.specs.Cells.{width}
+use Rattle.index_model.specs.Cells.{width, rowOf}
+use Rattle.index_model.specs.Buffers.{Buffers}
 use Rattle.index_model.specs.Opening.{limitsWrong, heldWrong}
-use Rattle.index_model.specs.Calls.{insertRows, insertSeconds, removeRows, removeSeconds}
+use Rattle.index_model.specs.Calls.{inserted, rowInserted, removed, rowRemoved}
 use Rattle.index_model.specs.Ledger.{Ledger, withEntry, Call, insert, remove, query, consistency, done, second, tested, ledgerInsert, ledgerRemove, ledgerStep, ledgerReply}
-use Rattle.index_model.specs.History.{Cells, step, reply, after, replies, ledgerAfter, ledgerReplies, isAccepted, callNumber, isOf, leaves, joins, altersRow, altersSecond, Alters, EachAlters}
+use Rattle.index_model.specs.History.{step, reply, after, replies, ledgerAfter, ledgerReplies, isAccepted, callNumber, isOf, leaves, joins, altersRow, altersSecond, Alters, EachAlters}
 use Rattle.index_model.proofs.Agreement.{Regular, Agree}
-use Rattle.index_model.proofs.Changes.{putCells, takenCells, Changed, put-changed, taken-changed}
+use Rattle.index_model.proofs.Changes.{Changed, put-changed, taken-changed}
 use Rattle.index_model.proofs.Judging.{put-accepted, take-accepted, others-count, put-judged, take-judged, ask-answered, test-answered}
 
 -- a call that changes nothing alters only what it may
-same : (o : Opening) (L : Ledger) (call : Call) (c : Cells) → Alters o L call c c
+same : (o : Opening) (L : Ledger) (call : Call) (c : Buffers) → Alters o L call c c
 same o L call c =
     record { rows-length = refl; seconds-length = refl; rows = λ m e. refl; seconds = λ m e. refl; nothing = λ e. refl }
 
 -- what one call gives
-pub record Stepped (o : Opening) (L : Ledger) (call : Call) (L' : Ledger) (c c' : Cells) : Type 0 where
+pub record Stepped (o : Opening) (L : Ledger) (call : Call) (L' : Ledger) (c c' : Buffers) : Type 0 where
   pub regular : Regular o L'
   pub agree : Agree o L' c'
   pub alters : Alters o L call c c'
@@ -36,7 +37,7 @@ second-fails : (a b : Bool) → a ≡ true → a && b ≡ false → b ≡ false
 second-fails a b e h = (λ t. sym e t && b) ∙ h
 
 -- an accepted call, once its change is made
-changed-steps : (o : Opening) (L : Ledger) (call : Call) (entry : Option (List ℕ)) (c c' : Cells) → isAccepted o L call ≡ true → ((k : ℕ) → joins call k ≡ isOf k entry) → Changed o L (callNumber call) entry c c' → Stepped o L call (withEntry L (callNumber call) entry) c c'
+changed-steps : (o : Opening) (L : Ledger) (call : Call) (entry : Option (List ℕ)) (c c' : Buffers) → isAccepted o L call ≡ true → ((k : ℕ) → joins call k ≡ isOf k entry) → Changed o L (callNumber call) entry c c' → Stepped o L call (withEntry L (callNumber call) entry) c c'
 unfolding altersRow altersSecond
 changed-steps o L call entry c c' e joined changed =
     record {
@@ -57,39 +58,46 @@ changed-steps o L call entry c c' e joined changed =
     }
 
 module _ (o : Opening) (fine : limitsWrong o || heldWrong o ≡ false) where
-  module _ (L : Ledger) (c : Cells) (regular : Regular o L) (agree : Agree o L c) where
-    put-done : (b : List ℕ) → eqb (ledgerInsert o L b) 0 ≡ true → Stepped o L (insert b) (withEntry L (numberOf b) (some b)) c (putCells o c (numberOf b) b)
+  module _ (L : Ledger) (c : Buffers) (regular : Regular o L) (agree : Agree o L c) where
+    -- the buffers once the record b is put under its number, and once number n is taken out
+    abbrev put : List ℕ → Buffers
+    put b = rowInserted o (numberOf b - 1) (secondOf b) (rowOf b) c
+
+    abbrev taken : ℕ → Buffers
+    taken n = rowRemoved o (n - 1) c
+
+    put-done : (b : List ℕ) → eqb (ledgerInsert o L b) 0 ≡ true → Stepped o L (insert b) (withEntry L (numberOf b) (some b)) c (put b)
     unfolding isAccepted
     put-done b e =
         let enters = put-accepted o L b (eqb-true (ledgerInsert o L b) 0 e) in
-        changed-steps o L (insert b) (some b) c (putCells o c (numberOf b) b) e (λ k. refl)
+        changed-steps o L (insert b) (some b) c (put b) e (λ k. refl)
         (put-changed o L c regular agree (numberOf b) (enters .above) (enters .below) b (enters .sound)
         (omega (arith, enters .room, others-count o fine L c regular agree (numberOf b) (secondOf b) (enters .above) (enters .below))))
 
-    take-done : (n : ℕ) → eqb (ledgerRemove o L n) 0 ≡ true → Stepped o L (remove n) (withEntry L n none) c (takenCells o c n)
+    take-done : (n : ℕ) → eqb (ledgerRemove o L n) 0 ≡ true → Stepped o L (remove n) (withEntry L n none) c (taken n)
     unfolding isAccepted
     take-done n e =
         let range = take-accepted o L n (eqb-true (ledgerRemove o L n) 0 e) in
-        changed-steps o L (remove n) none c (takenCells o c n) e (λ k. refl)
+        changed-steps o L (remove n) none c (taken n) e (λ k. refl)
         (taken-changed o L c regular agree n (range .0) (range .1))
 
     -- by the ledger's test: the change, or nothing
-    by-test : (call : Call) (L' : Ledger) (c' : Cells) (t : Bool) → (t ≡ true → Stepped o L call L' c c') → Stepped o L call (cond t L' L) c (record { rows = cond t (c' .rows) (c .rows); seconds = cond t (c' .seconds) (c .seconds) })
+    by-test : (call : Call) (L' : Ledger) (c' : Buffers) (t : Bool) → (t ≡ true → Stepped o L call L' c c') → Stepped o L call (cond t L' L) c (cond t c' c)
     by-test call L' c' true h = h refl
     by-test call L' c' false h = record { regular = regular; agree = agree; alters = same o L call c }
 
     pub stepped : (call : Call) → Stepped o L call (ledgerStep o call L) c (step o call c)
-    unfolding ledgerStep step insertRows insertSeconds removeRows removeSeconds
+    unfolding ledgerStep step inserted removed
     stepped (insert b) =
         subst
-        (λ (x : ℕ). Stepped o L (insert b) (ledgerStep o (insert b) L) c (record { rows = cond (eqb x 0) (putCells o c (numberOf b) b .rows) (c .rows); seconds = cond (eqb x 0) (putCells o c (numberOf b) b .seconds) (c .seconds) }))
+        (λ (x : ℕ). Stepped o L (insert b) (ledgerStep o (insert b) L) c (cond (eqb x 0) (put b) c))
         (sym (put-judged o fine L c regular agree b))
-        (by-test (insert b) (withEntry L (numberOf b) (some b)) (putCells o c (numberOf b) b) (eqb (ledgerInsert o L b) 0) (put-done b))
+        (by-test (insert b) (withEntry L (numberOf b) (some b)) (put b) (eqb (ledgerInsert o L b) 0) (put-done b))
     stepped (remove n) =
         subst
-        (λ (x : ℕ). Stepped o L (remove n) (ledgerStep o (remove n) L) c (record { rows = cond (eqb x 0) (takenCells o c n .rows) (c .rows); seconds = cond (eqb x 0) (takenCells o c n .seconds) (c .seconds) }))
+        (λ (x : ℕ). Stepped o L (remove n) (ledgerStep o (remove n) L) c (cond (eqb x 0) (taken n) c))
         (sym (take-judged o fine L c regular agree n))
-        (by-test (remove n) (withEntry L n none) (takenCells o c n) (eqb (ledgerRemove o L n) 0) (take-done n))
+        (by-test (remove n) (withEntry L n none) (taken n) (eqb (ledgerRemove o L n) 0) (take-done n))
     stepped (query s) = record { regular = regular; agree = agree; alters = same o L (query s) c }
     stepped consistency = record { regular = regular; agree = agree; alters = same o L consistency c }
 
@@ -102,19 +110,19 @@ module _ (o : Opening) (fine : limitsWrong o || heldWrong o ≡ false) where
 
   -- ## any list of calls
 
-  pub after-agrees : (calls : List Call) (L : Ledger) (c : Cells) → Regular o L → Agree o L c → Regular o (ledgerAfter o calls L) × Agree o (ledgerAfter o calls L) (after o calls c)
+  pub after-agrees : (calls : List Call) (L : Ledger) (c : Buffers) → Regular o L → Agree o L c → Regular o (ledgerAfter o calls L) × Agree o (ledgerAfter o calls L) (after o calls c)
   after-agrees [] L c g a = (g, a)
   after-agrees (call ∷ calls) L c g a =
       let next = stepped L c g a call in
       after-agrees calls (ledgerStep o call L) (step o call c) (next .regular) (next .agree)
 
-  pub all-answered : (calls : List Call) (L : Ledger) (c : Cells) → Regular o L → Agree o L c → replies o calls c ≡ ledgerReplies o calls L
+  pub all-answered : (calls : List Call) (L : Ledger) (c : Buffers) → Regular o L → Agree o L c → replies o calls c ≡ ledgerReplies o calls L
   all-answered [] L c g a = refl
   all-answered (call ∷ calls) L c g a =
       let next = stepped L c g a call in
       λ t. answered L c g a call t ∷ all-answered calls (ledgerStep o call L) (step o call c) (next .regular) (next .agree) t
 
-  pub each-alters : (calls : List Call) (L : Ledger) (c : Cells) → Regular o L → Agree o L c → EachAlters o calls L c
+  pub each-alters : (calls : List Call) (L : Ledger) (c : Buffers) → Regular o L → Agree o L c → EachAlters o calls L c
   each-alters [] L c g a = tt
   each-alters (call ∷ calls) L c g a =
       let next = stepped L c g a call in

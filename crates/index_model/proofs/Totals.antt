@@ -9,11 +9,13 @@ use native.Mathlib.Omega.{arith}
 use lib.Dec.{eqb}
 use lib.ListN.{getD}
 use borrow.Author.Tests.{eqb-true, eqb-false, ne-eqb}
+use Rattle.sample_rates.specs.Rates.{mostSamples}
 use Rattle.index_model.specs.Records.{secondOf}
-use Rattle.index_model.specs.Cells.{width, cell, rowOf, flag, isGreatest, cellLimit, rowWithin, mergeIf, cellFrom}
+use Rattle.index_model.specs.Cells.{width, sampleOffset, cell, rowOf, flag, isGreatest, cellLimit, rowWithin, mergeIf, cellFrom}
 use Rattle.index_model.specs.Ledger.{Ledger, withEntry}
 use Rattle.index_model.specs.History.{isOf}
 use Rattle.index_model.proofs.Merges.{plainBy, plain-swap, plain-none, plain-sum, exact, fits-before}
+use Rattle.index_model.proofs.Limits.{mostRecords}
 use Rattle.index_model.proofs.Rows.{rowFor, row-records, row-second}
 
 -- what a number's entry gives to cell j of second s
@@ -97,9 +99,9 @@ pub count-sum : (a b : ℕ) → plainBy (isGreatest 0) a b ≡ a + b
 unfolding isGreatest
 count-sum a b = plain-sum (isGreatest 0) a b refl
 
--- the most that a record's row has in a cell: 1,000 squares of 16,384
+-- the most that a record's row has in a cell: the squares of its samples
 abbrev pub rowLimit : ℕ
-rowLimit = 16384000
+rowLimit = sampleOffset * sampleOffset * mostSamples
 
 abbrev pub SmallRows : Ledger → Type 0
 SmallRows L = (n : ℕ) (b : List ℕ) → L n ≡ some b → (j : ℕ) → getD (rowOf b) j 0 ≤ rowLimit
@@ -119,8 +121,8 @@ bounded L small s j zero e = omega arith
 bounded L small s j (suc m) e =
     omega (arith, bounded L small s j m e, share-small s j (L (suc m)) (λ b h. small (suc m) b h j), plain-sum (isGreatest j) (cellTotal L s j m) (share s j (L (suc m))) e, count-sum (cellTotal L s 0 m) (share s 0 (L (suc m))))
 
--- sums of at most 50 records fit a cell
-pub sums-fit : (L : Ledger) → SmallRows L → (s j m : ℕ) → cellTotal L s 0 m ≤ 50 → isGreatest j ≡ false → cellTotal L s j m < cellLimit
+-- sums of a full second's records fit a cell
+pub sums-fit : (L : Ledger) → SmallRows L → (s j m : ℕ) → cellTotal L s 0 m ≤ mostRecords → isGreatest j ≡ false → cellTotal L s j m < cellLimit
 sums-fit L small s j m h e = omega (arith, bounded L small s j m e)
 
 -- ## the pass over the rows

@@ -15,9 +15,10 @@ use Rattle.lists.proofs.Order.{le-or-lt}
 use Rattle.index_model.specs.declared.Opening.{Opening}
 use Rattle.index_model.specs.Records.{secondOf}
 use Rattle.index_model.specs.Cells.{width, cell}
+use Rattle.index_model.specs.Buffers.{Buffers}
 use Rattle.index_model.specs.Opening.{limitsWrong, heldWrong}
 use Rattle.index_model.specs.Ledger.{Ledger, Call, insert, remove, query, consistency, ledgerInsert, ledgerRemove, ledgerStep}
-use Rattle.index_model.specs.History.{Cells, step, after, ledgerAfter, isAccepted, callNumber, isOf, leaves, joins, altersRow, altersSecond, Alters}
+use Rattle.index_model.specs.History.{step, after, ledgerAfter, isAccepted, callNumber, isOf, leaves, joins, altersRow, altersSecond, Alters}
 use Rattle.index_model.proofs.Limits.{in-window}
 use Rattle.index_model.proofs.Seconds.{Inside}
 use Rattle.index_model.proofs.Agreement.{Regular, Agree}
@@ -66,13 +67,13 @@ module _ (o : Opening) (L : Ledger) (regular : Regular o L) where
       by-test false e = refl
 
 -- lengths, and what lies beyond, are the same
-pub record SameBeyond (o : Opening) (c c' : Cells) : Type 0 where
+pub record SameBeyond (o : Opening) (c c' : Buffers) : Type 0 where
   pub rows-length : length (c' .rows) ≡ length (c .rows)
   pub seconds-length : length (c' .seconds) ≡ length (c .seconds)
   pub rows : (m : ℕ) → width * o .«highest_number» ≤ m → getD (c' .rows) m 0 ≡ getD (c .rows) m 0
   pub seconds : (m : ℕ) → width * o .«second_count» ≤ m → getD (c' .seconds) m 0 ≡ getD (c .seconds) m 0
 
-step-beyond : (o : Opening) (L : Ledger) → Regular o L → (call : Call) (c c' : Cells) → Alters o L call c c' → SameBeyond o c c'
+step-beyond : (o : Opening) (L : Ledger) → Regular o L → (call : Call) (c c' : Buffers) → Alters o L call c c' → SameBeyond o c c'
 step-beyond o L regular call c c' a =
     record {
       rows-length = a .rows-length;
@@ -82,7 +83,7 @@ step-beyond o L regular call c c' a =
     }
 
 module _ (o : Opening) (fine : limitsWrong o || heldWrong o ≡ false) where
-  after-beyond : (calls : List Call) (L : Ledger) (c : Cells) → Regular o L → Agree o L c → SameBeyond o c (after o calls c)
+  after-beyond : (calls : List Call) (L : Ledger) (c : Buffers) → Regular o L → Agree o L c → SameBeyond o c (after o calls c)
   after-beyond [] L c g a = record { rows-length = refl; seconds-length = refl; rows = λ m h. refl; seconds = λ m h. refl }
   after-beyond (call ∷ calls) L c g a =
       let next = stepped o fine L c g a call in
@@ -105,14 +106,14 @@ same-cells n x y e within beyond =
     (λ p. let z : width * (m / width) + m % width ≡ m = omega arith in sym (λ t. getD x (z t) 0) ∙ within (m / width) (omega arith) (m % width) (omega arith) ∙ (λ t. getD y (z t) 0))
     (le-or-lt (width * n) m))
 
-pub unique : (o : Opening) (L : Ledger) (c c' : Cells) → Agree o L c → Agree o L c' → SameBeyond o c c' → c' ≡ c
+pub unique : (o : Opening) (L : Ledger) (c c' : Buffers) → Agree o L c → Agree o L c' → SameBeyond o c c' → c' ≡ c
 unique o L c c' a a' b =
     λ t. record {
       rows = same-cells (o .«highest_number») (c' .rows) (c .rows) (b .rows-length) (λ i hi j hj. a' .rows-are i hi j hj ∙ sym (a .rows-are i hi j hj)) (b .rows) t;
       seconds = same-cells (o .«second_count») (c' .seconds) (c .seconds) (b .seconds-length) (λ k hk j hj. a' .seconds-are k hk j hj ∙ sym (a .seconds-are k hk j hj)) (b .seconds) t;
     }
 
-pub told-by-ledger : (o : Opening) → limitsWrong o || heldWrong o ≡ false → (L : Ledger) (c : Cells) → Regular o L → Agree o L c → (calls calls' : List Call) → ledgerAfter o calls L ≡ ledgerAfter o calls' L → after o calls c ≡ after o calls' c
+pub told-by-ledger : (o : Opening) → limitsWrong o || heldWrong o ≡ false → (L : Ledger) (c : Buffers) → Regular o L → Agree o L c → (calls calls' : List Call) → ledgerAfter o calls L ≡ ledgerAfter o calls' L → after o calls c ≡ after o calls' c
 told-by-ledger o fine L c g a calls calls' same =
     let x = after-beyond o fine calls L c g a in
     let y = after-beyond o fine calls' L c g a in

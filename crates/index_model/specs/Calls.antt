@@ -1,14 +1,13 @@
--- The calls after opening, on any cells whatever: what each answers, and the cells that it leaves. 01: "The book".
+-- The calls after opening, on any cells whatever: what each answers, and the buffers that it leaves. FORMAT, "The index of seconds".
 -- A put or take-out that is refused leaves every cell as it was; a question and a test change none.
 use Prim.Native.Nat.{ℕ, zero, suc, _+_, _-_, _*_, _%_}
 use mathlib.Core.Bool.{Bool, true, false, cond, not, _&&_, _||_}
 use mathlib.Core.List.{List, [], _∷_}
 use lib.Dec.{eqb, leb}
 use lib.IntN.{ℤ, pos, _-ℤ_}
-use lib.ListN.{length, getD}
+use lib.ListN.{getD}
 use Rattle.lists.specs.Fill.{tab}
 use Rattle.channels.specs.Sample.{signedOf}
-use Rattle.header.specs.Header.{headerOf}
 use Rattle.sample_rates.specs.Rates.{sampleRateOf, recordsPerSecond, samplesPerRecord}
 use Rattle.answers.specs.Answer.{Answer, unless}
 use Rattle.record.specs.Record.{recordRefusal}
@@ -18,7 +17,8 @@ use Rattle.totals.specs.Total.{noTotal}
 use Rattle.index_model.specs.declared.Opening.{Opening}
 use Rattle.index_model.specs.Records.{numberOf, secondOf}
 use Rattle.index_model.specs.Second.{SecondTotals, noSecond}
-use Rattle.index_model.specs.Cells.{width, cell, blockAt, withBlock, rowOf, noRow, flag, merged, rowWithin, cellFrom, secondFrom}
+use Rattle.index_model.specs.Cells.{width, channelCell, sampleOffset, greatestOffset, cell, blockAt, withBlock, rowOf, noRow, flag, merged, rowWithin, cellFrom, secondFrom}
+use Rattle.index_model.specs.Buffers.{Buffers}
 use Rattle.index_model.specs.Opening.{openingRefusal, otherReel, isOutside, inWindow, placeOf}
 
 -- L: the records of a full second
@@ -39,70 +39,71 @@ unfoldable pub join : Bool → List ℕ → ℕ → List ℕ → List ℕ
 join anew seconds k row = cond anew seconds (withBlock seconds k (merged (blockAt seconds k) row))
 
 -- row i replaced by a row of second s: the second that the old row was of is left, and second s is joined
-unfoldable pub secondsInserted : Opening → ℕ → ℕ → List ℕ → List ℕ → List ℕ → List ℕ
-secondsInserted o i s row rows seconds =
-    join (rowWithin rows i s) (leave o (withBlock rows i row) (cell rows i 0) (cell rows i 3) seconds) (placeOf o s) row
+unfoldable pub secondsInserted : Opening → ℕ → ℕ → List ℕ → Buffers → List ℕ
+secondsInserted o i s row c =
+    join (rowWithin (c .rows) i s) (leave o (withBlock (c .rows) i row) (cell (c .rows) i 0) (cell (c .rows) i 3) (c .seconds)) (placeOf o s)
+    row
+
+abbrev pub rowInserted : Opening → ℕ → ℕ → List ℕ → Buffers → Buffers
+rowInserted o i s row c = record { rows = withBlock (c .rows) i row; seconds = secondsInserted o i s row c }
 
 -- row i cleared: the second that the old row was of is left
-unfoldable pub secondsRemoved : Opening → ℕ → List ℕ → List ℕ → List ℕ
-secondsRemoved o i rows seconds = leave o (withBlock rows i noRow) (cell rows i 0) (cell rows i 3) seconds
+unfoldable pub secondsRemoved : Opening → ℕ → Buffers → List ℕ
+secondsRemoved o i c = leave o (withBlock (c .rows) i noRow) (cell (c .rows) i 0) (cell (c .rows) i 3) (c .seconds)
+
+abbrev pub rowRemoved : Opening → ℕ → Buffers → Buffers
+rowRemoved o i c = record { rows = withBlock (c .rows) i noRow; seconds = secondsRemoved o i c }
 
 -- ## put
 
--- second s has L records of other numbers: the row of number n itself does not count where it is of that second
-unfoldable pub isFull : Opening → ℕ → ℕ → List ℕ → List ℕ → Bool
-isFull o n s rows seconds = leb (fullCount o + flag (rowWithin rows (n - 1) s)) (cell seconds (placeOf o s) 0)
+-- second s has L records beside row i: that row itself does not count where it is of that second
+unfoldable pub isFull : Opening → ℕ → ℕ → Buffers → Bool
+isFull o i s c = leb (fullCount o + flag (rowWithin (c .rows) i s)) (cell (c .seconds) (placeOf o s) 0)
 
-module _ (o : Opening) (b : List ℕ) (rows seconds : List ℕ) where
+module _ (o : Opening) (b : List ℕ) (c : Buffers) where
   unfoldable pub insertRefusal : ℕ
   insertRefusal =
       recordRefusal b
-      then openingRefusal o (length rows) (length seconds)
+      then openingRefusal o c
       then first
-      (15 when otherReel o (headerOf b)
+      (15 when otherReel o b
       ∷ 16 when isOutside o (numberOf b)
       ∷ 17 when not (inWindow o (secondOf b))
-      ∷ 18 when isFull o (numberOf b) (secondOf b) rows seconds
+      ∷ 18 when isFull o (numberOf b - 1) (secondOf b) c
       ∷ [])
 
-  unfoldable pub insertRows : List ℕ
-  insertRows = cond (eqb insertRefusal 0) (withBlock rows (numberOf b - 1) (rowOf b)) rows
-
-  unfoldable pub insertSeconds : List ℕ
-  insertSeconds = cond (eqb insertRefusal 0) (secondsInserted o (numberOf b - 1) (secondOf b) (rowOf b) rows seconds) seconds
+  unfoldable pub inserted : Buffers
+  inserted = cond (eqb insertRefusal 0) (rowInserted o (numberOf b - 1) (secondOf b) (rowOf b) c) c
 
 -- ## take out
 
-module _ (o : Opening) (n : ℕ) (rows seconds : List ℕ) where
+module _ (o : Opening) (n : ℕ) (c : Buffers) where
   unfoldable pub removeRefusal : ℕ
   removeRefusal =
-      openingRefusal o (length rows) (length seconds)
-      then first (16 when isOutside o n ∷ 19 when eqb (cell rows (n - 1) 0) 0 ∷ [])
+      openingRefusal o c
+      then first (16 when isOutside o n ∷ 19 when eqb (cell (c .rows) (n - 1) 0) 0 ∷ [])
 
-  unfoldable pub removeRows : List ℕ
-  removeRows = cond (eqb removeRefusal 0) (withBlock rows (n - 1) noRow) rows
-
-  unfoldable pub removeSeconds : List ℕ
-  removeSeconds = cond (eqb removeRefusal 0) (secondsRemoved o (n - 1) rows seconds) seconds
+  unfoldable pub removed : Buffers
+  removed = cond (eqb removeRefusal 0) (rowRemoved o (n - 1) c) c
 
 -- ## ask
 
 -- least and greatest from their cells: 128 - x and x - 129. A history leaves 1 to 256 there; any other cell counts modulo
 -- 256, so that a signed byte comes of it
 abbrev pub leastFrom : ℕ → ℤ
-leastFrom x = signedOf ((384 - x % 256) % 256)
+leastFrom x = signedOf ((256 + sampleOffset - x % 256) % 256)
 
 abbrev pub greatestFrom : ℕ → ℤ
-greatestFrom x = signedOf ((x + 127) % 256)
+greatestFrom x = signedOf ((x + (256 - greatestOffset)) % 256)
 
 -- the total of a channel (1 to 4) from the cells of a second that has n samples of it
 abbrev pub channelShown : ℕ → List ℕ → ℕ → Total
 channelShown n second channel =
     record {
-      sum = pos (getD second (4 * channel) 0) -ℤ pos (128 * n);
-      squares = getD second (4 * channel + 1) 0;
-      least = leastFrom (getD second (4 * channel + 2) 0);
-      greatest = greatestFrom (getD second (4 * channel + 3) 0);
+      sum = pos (getD second (channelCell channel 0) 0) -ℤ pos (sampleOffset * n);
+      squares = getD second (channelCell channel 1) 0;
+      least = leastFrom (getD second (channelCell channel 2) 0);
+      greatest = greatestFrom (getD second (channelCell channel 3) 0);
     }
 
 -- a second of no records has 0 throughout
@@ -124,12 +125,12 @@ secondShown o second =
       kept = keptFrom (fullCount o) second;
     }
 
-module _ (o : Opening) (s : ℕ) (rows seconds : List ℕ) where
+module _ (o : Opening) (s : ℕ) (c : Buffers) where
   unfoldable pub queryRefusal : ℕ
-  queryRefusal = openingRefusal o (length rows) (length seconds) then first (17 when not (inWindow o s) ∷ [])
+  queryRefusal = openingRefusal o c then first (17 when not (inWindow o s) ∷ [])
 
   unfoldable pub queryAnswer : Answer SecondTotals
-  queryAnswer = unless queryRefusal noSecond (secondShown o (blockAt seconds (placeOf o s)))
+  queryAnswer = unless queryRefusal noSecond (secondShown o (blockAt (c .seconds) (placeOf o s)))
 
 -- ## book test
 
@@ -139,19 +140,19 @@ rowsInside o rows zero = true
 rowsInside o rows (suc i) = rowsInside o rows i && (eqb (cell rows i 0) 0 || inWindow o (cell rows i 3))
 
 -- the first n cells of a second are those that the rows give
-unfoldable pub cellsRight : Opening → List ℕ → List ℕ → ℕ → ℕ → Bool
-cellsRight o rows seconds k zero = true
-cellsRight o rows seconds k (suc j) =
-    cellsRight o rows seconds k j && eqb (cell seconds k j) (cellFrom rows (o .«first_second» + k) j (o .«highest_number»))
+unfoldable pub cellsRight : Opening → Buffers → ℕ → ℕ → Bool
+cellsRight o c k zero = true
+cellsRight o c k (suc j) =
+    cellsRight o c k j && eqb (cell (c .seconds) k j) (cellFrom (c .rows) (o .«first_second» + k) j (o .«highest_number»))
 
 -- all cells of the first n seconds are those that the rows give
-unfoldable pub secondsRight : Opening → List ℕ → List ℕ → ℕ → Bool
-secondsRight o rows seconds zero = true
-secondsRight o rows seconds (suc k) = secondsRight o rows seconds k && cellsRight o rows seconds k width
+unfoldable pub secondsRight : Opening → Buffers → ℕ → Bool
+secondsRight o c zero = true
+secondsRight o c (suc k) = secondsRight o c k && cellsRight o c k width
 
-module _ (o : Opening) (rows seconds : List ℕ) where
+module _ (o : Opening) (c : Buffers) where
   unfoldable pub isConsistent : Bool
-  isConsistent = rowsInside o rows (o .«highest_number») && secondsRight o rows seconds (o .«second_count»)
+  isConsistent = rowsInside o (c .rows) (o .«highest_number») && secondsRight o c (o .«second_count»)
 
   unfoldable pub consistencyAnswer : Answer Bool
-  consistencyAnswer = unless (openingRefusal o (length rows) (length seconds)) false isConsistent
+  consistencyAnswer = unless (openingRefusal o c) false isConsistent

@@ -1,26 +1,34 @@
--- The cells of the index: 20 for each record number, its row, and 20 for each second of the window. 01: "The book", "The
--- ledger". A row and a second have the same cells, and each cell of a second is the sum, or the greatest, of that cell over
+-- The cells of the index: for each record number its row, and for each second of the window as many. FORMAT, "The index of
+-- seconds". A row and a second have the same cells, and each cell of a second is the sum, or the greatest, of that cell over
 -- the rows of its records; no rows give 0. Sums are modulo 2^32, since a cell has 32 bits.
 --
 --   0 records, 1 in a row               4c, 4c + 1  channel c (1 to 4): sum of (sample + 128), sum of squares
 --   1 records with clock origin 1       4c + 2      128 less the least sample
 --   2 records with copy error 1         4c + 3      the greatest sample plus 129
 --   3 the second
-use Prim.Native.Nat.{ℕ, zero, suc, _+_, _*_, _%_, max}
+use Prim.Native.Nat.{ℕ, zero, suc, _+_, _*_, _/_, _%_, max}
 use mathlib.Core.Bool.{Bool, true, false, cond, not, _&&_}
 use mathlib.Core.List.{List, [], _∷_, _++_}
 use lib.Dec.{eqb, ltb}
 use lib.IntN.{ℤ, pos, negsuc, _+ℤ_, _-ℤ_}
-use lib.ListN.{getD, take, drop}
+use lib.ListN.{length, getD, take, drop}
 use Rattle.lists.specs.Fill.{tab}
 use Rattle.totals.specs.declared.Total.{Total}
 use Rattle.totals.specs.Total.{totalsOf}
 use Rattle.index_model.specs.Records.{secondOf, hasOrigin, hasError}
-use Rattle.record.specs.Stretch.{sampleCount, stretchOf}
+use Rattle.record.specs.Stretch.{stretchOf}
 
 -- cells in a row, and in a second
 abbrev pub width : ℕ
 width = 20
+
+-- cell j (0 to 3) of channel c (1 to 4)
+abbrev pub channelCell : ℕ → ℕ → ℕ
+channelCell c j = 4 * c + j
+
+-- a cell is less than this
+abbrev pub cellLimit : ℕ
+cellLimit = 4294967296
 
 -- cell j of row (or second) i, counted from 0
 abbrev pub cell : List ℕ → ℕ → ℕ → ℕ
@@ -40,9 +48,17 @@ abbrev pub natOf : ℤ → ℕ
 natOf (pos n) = n
 natOf (negsuc n) = 0
 
+-- what makes a sample, and 0 less a sample, a number from 0 up; and a sample a number from 1 up
+abbrev pub sampleOffset : ℕ
+sampleOffset = 128
+
+abbrev pub greatestOffset : ℕ
+greatestOffset = sampleOffset + 1
+
 -- the four cells of a channel's total over n samples
 abbrev pub channelCells : ℕ → Total → List ℕ
-channelCells n t = natOf (t .sum +ℤ pos (128 * n)) ∷ t .squares ∷ natOf (pos 128 -ℤ t .least) ∷ natOf (t .greatest +ℤ pos 129) ∷ []
+channelCells n t =
+    natOf (t .sum +ℤ pos (sampleOffset * n)) ∷ t .squares ∷ natOf (pos sampleOffset -ℤ t .least) ∷ natOf (t .greatest +ℤ pos greatestOffset) ∷ []
 
 abbrev pub allChannelCells : ℕ → List Total → List ℕ
 allChannelCells n [] = []
@@ -51,10 +67,16 @@ allChannelCells n (t ∷ ts) = channelCells n t ++ allChannelCells n ts
 abbrev pub flag : Bool → ℕ
 flag b = cond b 1 0
 
+-- the samples of each channel that a stretch holds, and the cells of the four channels; the stretch of an accepted record holds as
+-- many as its rate says
+abbrev pub samplesIn : List ℕ → ℕ
+samplesIn stretch = length stretch / 4
+
+abbrev pub stretchCells : List ℕ → List ℕ
+stretchCells stretch = allChannelCells (samplesIn stretch) (totalsOf stretch (samplesIn stretch))
+
 unfoldable pub rowOf : List ℕ → List ℕ
-rowOf b =
-    1 ∷ flag (hasOrigin b) ∷ flag (hasError b) ∷ secondOf b
-    ∷ allChannelCells (sampleCount b) (totalsOf (stretchOf b) (sampleCount b))
+rowOf b = 1 ∷ flag (hasOrigin b) ∷ flag (hasError b) ∷ secondOf b ∷ stretchCells (stretchOf b)
 
 -- the row of a number that is not held
 abbrev pub noRow : List ℕ
@@ -65,10 +87,6 @@ noRow = tab (λ (j : ℕ). 0) 0 width
 -- cell j holds the greatest: the third and the fourth of every four cells, but not cell 2, a count; the other cells are sums
 unfoldable pub isGreatest : ℕ → Bool
 isGreatest j = ltb 1 (j % 4) && not (eqb j 2)
-
--- a cell is less than this
-abbrev pub cellLimit : ℕ
-cellLimit = 4294967296
 
 unfoldable pub mergeBy : Bool → ℕ → ℕ → ℕ
 mergeBy true a b = max a b

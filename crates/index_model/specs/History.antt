@@ -1,5 +1,5 @@
--- Histories: an opening and a list of calls, run on the cells and on the ledger. 01: "A history is an opening and a list of
--- calls"; "A call leaves the second of the record that goes or is replaced, and joins that of the record put".
+-- Histories: an opening and a list of calls, run on the cells and on the ledger. A call leaves the second of the record that goes or
+-- is replaced, and joins that of the record put. FORMAT, "The ledger".
 use Prim.Native.Nat.{ℕ, suc, _+_, _/_}
 use mathlib.Core.Path.{_≡_}
 use mathlib.Core.Bool.{Bool, false, _&&_, _||_}
@@ -10,33 +10,29 @@ use lib.ListN.{length, getD}
 use Rattle.index_model.specs.declared.Opening.{Opening}
 use Rattle.index_model.specs.Records.{numberOf, secondOf}
 use Rattle.index_model.specs.Cells.{width}
-use Rattle.index_model.specs.Calls.{insertRefusal, insertRows, insertSeconds, removeRefusal, removeRows, removeSeconds, queryAnswer, consistencyAnswer}
+use Rattle.index_model.specs.Buffers.{Buffers}
+use Rattle.index_model.specs.Calls.{insertRefusal, inserted, removeRefusal, removed, queryAnswer, consistencyAnswer}
 use Rattle.index_model.specs.Ledger.{Ledger, Call, insert, remove, query, consistency, Reply, done, second, tested, ledgerInsert, ledgerRemove, ledgerStep, ledgerReply}
 
--- the two lent buffers
-pub record Cells : Type 0 where
-  pub rows : List ℕ
-  pub seconds : List ℕ
-
--- the cells after a call, and its answer
-unfoldable pub step : Opening → Call → Cells → Cells
-step o (insert b) c = record { rows = insertRows o b (c .rows) (c .seconds); seconds = insertSeconds o b (c .rows) (c .seconds) }
-step o (remove n) c = record { rows = removeRows o n (c .rows) (c .seconds); seconds = removeSeconds o n (c .rows) (c .seconds) }
+-- the buffers after a call, and its answer
+unfoldable pub step : Opening → Call → Buffers → Buffers
+step o (insert b) c = inserted o b c
+step o (remove n) c = removed o n c
 step o (query s) c = c
 step o consistency c = c
 
-unfoldable pub reply : Opening → Call → Cells → Reply
-reply o (insert b) c = done (insertRefusal o b (c .rows) (c .seconds))
-reply o (remove n) c = done (removeRefusal o n (c .rows) (c .seconds))
-reply o (query s) c = second (queryAnswer o s (c .rows) (c .seconds))
-reply o consistency c = tested (consistencyAnswer o (c .rows) (c .seconds))
+unfoldable pub reply : Opening → Call → Buffers → Reply
+reply o (insert b) c = done (insertRefusal o b c)
+reply o (remove n) c = done (removeRefusal o n c)
+reply o (query s) c = second (queryAnswer o s c)
+reply o consistency c = tested (consistencyAnswer o c)
 
 -- over a list of calls, each on what the call before it left
-abbrev pub after : Opening → List Call → Cells → Cells
+abbrev pub after : Opening → List Call → Buffers → Buffers
 after o [] c = c
 after o (call ∷ calls) c = after o calls (step o call c)
 
-abbrev pub replies : Opening → List Call → Cells → List Reply
+abbrev pub replies : Opening → List Call → Buffers → List Reply
 replies o [] c = []
 replies o (call ∷ calls) c = reply o call c ∷ replies o calls (step o call c)
 
@@ -89,7 +85,7 @@ altersSecond o ledger call k =
 
 -- cell by cell, and each buffer's length: no cell changes but those of that row and of those seconds, and nothing at all
 -- where the call is no accepted put or take-out
-pub record Alters (o : Opening) (ledger : Ledger) (call : Call) (old new : Cells) : Type 0 where
+pub record Alters (o : Opening) (ledger : Ledger) (call : Call) (old new : Buffers) : Type 0 where
   pub rows-length : length (new .rows) ≡ length (old .rows)
   pub seconds-length : length (new .seconds) ≡ length (old .seconds)
   pub rows : (m : ℕ) → altersRow o ledger call (m / width) ≡ false → getD (new .rows) m 0 ≡ getD (old .rows) m 0
@@ -97,6 +93,6 @@ pub record Alters (o : Opening) (ledger : Ledger) (call : Call) (old new : Cells
   pub nothing : isAccepted o ledger call ≡ false → new ≡ old
 
 -- every call of a list does so
-abbrev pub EachAlters : Opening → List Call → Ledger → Cells → Type 0
+abbrev pub EachAlters : Opening → List Call → Ledger → Buffers → Type 0
 EachAlters o [] ledger c = Unit
 EachAlters o (call ∷ calls) ledger c = Alters o ledger call c (step o call c) × EachAlters o calls (ledgerStep o call ledger) (step o call c)

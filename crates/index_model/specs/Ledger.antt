@@ -1,4 +1,4 @@
--- The ledger: what is held, told by the calls alone; no cell is read. 01: "The ledger".
+-- The ledger: what is held, told by the calls alone; no cell is read. FORMAT, "The ledger".
 use Prim.Native.Nat.{ℕ, zero, suc, _+_}
 use mathlib.Core.Bool.{Bool, true, false, cond, not, _&&_}
 use mathlib.Core.List.{List, [], _∷_, _++_, flatMap}
@@ -6,7 +6,6 @@ use mathlib.Core.Option.{Option, none, some}
 use lib.Dec.{eqb, leb}
 use lib.ListN.{length}
 use Rattle.lists.specs.Fill.{tab}
-use Rattle.header.specs.Header.{headerOf}
 use Rattle.sample_rates.specs.Rates.{sampleRateOf, recordsPerSecond}
 use Rattle.answers.specs.Answer.{Answer, accepted, unless}
 use Rattle.record.specs.Record.{recordRefusal}
@@ -79,7 +78,7 @@ unfoldable pub ledgerInsert : Opening → Ledger → List ℕ → ℕ
 ledgerInsert o ledger b =
     recordRefusal b
     then first
-    (15 when otherReel o (headerOf b)
+    (15 when otherReel o b
     ∷ 16 when isOutside o (numberOf b)
     ∷ 17 when not (inWindow o (secondOf b))
     ∷ 18 when ledgerFull o ledger (numberOf b) (secondOf b)

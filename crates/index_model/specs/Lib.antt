@@ -1,7 +1,9 @@
 pub mod Records
 pub mod Second
 pub mod Cells
+pub mod Buffers
 pub mod Opening
+pub mod Limits
 pub mod Calls
 pub mod Ledger
 pub mod History

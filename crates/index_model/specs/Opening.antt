@@ -1,18 +1,21 @@
--- Opening, what it returns, and what that decides without a look at any cell: 13 to 17. 01: "The book".
+-- Opening, what it returns, and what that decides without a look at any cell: 13 to 17. FORMAT, "The index of seconds",
+-- "Refusal numbers".
 use Prim.Native.Nat.{ℕ, _+_, _-_, _*_}
 use mathlib.Core.Bool.{Bool, cond, not, _&&_, _||_}
 use mathlib.Core.List.{List, [], _∷_}
 use lib.Dec.{eqb, ltb, leb}
 use lib.ListN.{length}
 use Rattle.lists.specs.Fill.{over}
-use Rattle.header.specs.declared.Header.{Header}
-use Rattle.header.specs.Header.{headerOf}
+use Rattle.fields.specs.Field.{valueOf}
+use Rattle.header.specs.Rows.{tapeNumber, spacecraft, spc, year, day, sampleRate}
 use Rattle.sample_rates.specs.Rates.{sampleRateOf, isNoRate}
 use Rattle.answers.specs.Answer.{Answer, unless}
+use Rattle.checks.specs.Checks.{wrongDate}
 use Rattle.record.specs.Record.{recordRefusal}
 use Rattle.answers.specs.Refusal.{_when_, first, _then_}
 use Rattle.index_model.specs.declared.Opening.{Opening}
 use Rattle.index_model.specs.Cells.{width}
+use Rattle.index_model.specs.Buffers.{Buffers}
 
 abbrev pub highestLimit : ℕ
 highestLimit = 65535
@@ -33,30 +36,27 @@ limitsWrong o =
 
 -- a held rate, tape, year or day that 5, 7 or 8 refuses
 unfoldable pub heldWrong : Opening → Bool
-heldWrong o =
-    isNoRate (sampleRateOf (o .«sample_rate_hz»))
-    || eqb (o .«tape_number») 0
-    || (ltb 99 (o .year) || (eqb (o .day) 0 || ltb 366 (o .day)))
+heldWrong o = isNoRate (sampleRateOf (o .«sample_rate_hz»)) || eqb (o .«tape_number») 0 || wrongDate (o .year) (o .day)
 
--- fewer than 20R row cells or 20C second cells
-unfoldable pub tooSmall : Opening → ℕ → ℕ → Bool
-tooSmall o rows seconds = ltb rows (width * o .«highest_number») || ltb seconds (width * o .«second_count»)
+-- fewer row cells than those of R rows, or fewer second cells than those of C seconds
+unfoldable pub tooSmall : Opening → Buffers → Bool
+tooSmall o c = ltb (length (c .rows)) (width * o .«highest_number») || ltb (length (c .seconds)) (width * o .«second_count»)
 
--- what every call after opening judges of the value that opening returned and of its two buffers' lengths
-unfoldable pub openingRefusal : Opening → ℕ → ℕ → ℕ
-openingRefusal o rows seconds = first (13 when (limitsWrong o || heldWrong o) ∷ 14 when tooSmall o rows seconds ∷ [])
+-- what every call after opening judges of the value that opening returned and of the buffers lent to it
+unfoldable pub openingRefusal : Opening → Buffers → ℕ
+openingRefusal o c = first (13 when (limitsWrong o || heldWrong o) ∷ 14 when tooSmall o c ∷ [])
 
 -- ## 15 to 17
 
 -- a record of another reel: rate, year, day, tape, spacecraft or SPC differ from the pattern's
-unfoldable pub otherReel : Opening → Header → Bool
-otherReel o h =
-    not (eqb (h .«sample_rate_hz») (o .«sample_rate_hz»))
-    || not (eqb (h .year) (o .year))
-    || not (eqb (h .day) (o .day))
-    || not (eqb (h .«tape_number») (o .«tape_number»))
-    || not (eqb (h .spacecraft) (o .spacecraft))
-    || not (eqb (h .spc) (o .spc))
+unfoldable pub otherReel : Opening → List ℕ → Bool
+otherReel o b =
+    not (eqb (valueOf sampleRate b) (o .«sample_rate_hz»))
+    || not (eqb (valueOf year b) (o .year))
+    || not (eqb (valueOf day b) (o .day))
+    || not (eqb (valueOf tapeNumber b) (o .«tape_number»))
+    || not (eqb (valueOf spacecraft b) (o .spacecraft))
+    || not (eqb (valueOf spc b) (o .spc))
 
 -- a record number outside 1 to R
 unfoldable pub isOutside : Opening → ℕ → Bool
@@ -79,12 +79,12 @@ openingOf pattern F C R =
       «first_second» = F;
       «second_count» = C;
       «highest_number» = R;
-      «sample_rate_hz» = headerOf pattern .«sample_rate_hz»;
-      «tape_number» = headerOf pattern .«tape_number»;
-      year = headerOf pattern .year;
-      day = headerOf pattern .day;
-      spacecraft = headerOf pattern .spacecraft;
-      spc = headerOf pattern .spc;
+      «sample_rate_hz» = valueOf sampleRate pattern;
+      «tape_number» = valueOf tapeNumber pattern;
+      year = valueOf year pattern;
+      day = valueOf day pattern;
+      spacecraft = valueOf spacecraft pattern;
+      spc = valueOf spc pattern;
     }
 
 -- beside a refusal: 0 throughout
@@ -102,22 +102,24 @@ noOpening =
       spc = 0;
     }
 
-module _ (pattern : List ℕ) (F C R : ℕ) (rows seconds : List ℕ) where
+-- the cells of the numbers 1 to R and of the C seconds of the window made 0, and none beyond touched
+abbrev pub cleared : ℕ → ℕ → Buffers → Buffers
+cleared C R c =
+    record { rows = over (c .rows) (λ (k : ℕ). 0) (width * R); seconds = over (c .seconds) (λ (k : ℕ). 0) (width * C) }
+
+module _ (pattern : List ℕ) (F C R : ℕ) (c : Buffers) where
   -- 1 to 11 of the pattern, then 13, then 14
   unfoldable pub openRefusal : ℕ
   openRefusal =
       recordRefusal pattern
       then first
       (13 when limitsWrong (openingOf pattern F C R)
-      ∷ 14 when tooSmall (openingOf pattern F C R) (length rows) (length seconds)
+      ∷ 14 when tooSmall (openingOf pattern F C R) c
       ∷ [])
 
   unfoldable pub openAnswer : Answer Opening
   openAnswer = unless openRefusal noOpening (openingOf pattern F C R)
 
-  -- the cells after opening: those of the numbers 1 to R and of the seconds of the window are 0, and none beyond is touched
-  unfoldable pub openRows : List ℕ
-  openRows = cond (eqb openRefusal 0) (over rows (λ (k : ℕ). 0) (width * R)) rows
-
-  unfoldable pub openSeconds : List ℕ
-  openSeconds = cond (eqb openRefusal 0) (over seconds (λ (k : ℕ). 0) (width * C)) seconds
+  -- the buffers after opening: a refusal touches no cell
+  unfoldable pub opened : Buffers
+  opened = cond (eqb openRefusal 0) (cleared C R c) c

@@ -1,4 +1,4 @@
--- What the index uses of a record: its number, its second, its two flags and its samples. 01: "The record", "The book".
+-- What the index uses of a record: its number, its second, its two flags and its samples. FORMAT, "The index of seconds".
 -- Any bytes have these; the index asks them of accepted records only.
 use Prim.Native.Nat.{ℕ, _/_}
 use mathlib.Core.Bool.{Bool}
@@ -6,21 +6,26 @@ use mathlib.Core.List.{List}
 use lib.Dec.{eqb}
 use lib.IntN.{ℤ}
 use Rattle.channels.specs.Sample.{samplesOf}
-use Rattle.header.specs.Header.{headerOf}
+use Rattle.fields.specs.Field.{valueOf}
+use Rattle.header.specs.Rows.{clockOrigin, copyError, recordNumber, timeTag}
 use Rattle.record.specs.Stretch.{sampleCount, stretchOf}
 
 abbrev pub numberOf : List ℕ → ℕ
-numberOf b = headerOf b .«record_number»
+numberOf b = valueOf recordNumber b
 
--- its tag over 1000, rounded down
+-- the milliseconds of a second
+abbrev pub secondMs : ℕ
+secondMs = 1000
+
+-- its tag in seconds, rounded down
 unfoldable pub secondOf : List ℕ → ℕ
-secondOf b = headerOf b .«time_tag_ms» / 1000
+secondOf b = valueOf timeTag b / secondMs
 
 abbrev pub hasOrigin : List ℕ → Bool
-hasOrigin b = eqb (headerOf b .«clock_origin») 1
+hasOrigin b = eqb (valueOf clockOrigin b) 1
 
 abbrev pub hasError : List ℕ → Bool
-hasError b = eqb (headerOf b .«copy_error») 1
+hasError b = eqb (valueOf copyError b) 1
 
 -- its samples of a channel (1 to 4)
 unfoldable pub channelSamples : ℕ → List ℕ → List ℤ

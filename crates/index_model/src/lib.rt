@@ -1,5 +1,20 @@
-// The index of seconds, 01's book: definitions of its cells and calls, the ledger, histories, and demand 3 proved over every
-// history (proofs/Demand3.antt). No function here; the functions of the index cite these definitions.
+// The index of seconds: definitions of its cells and calls, the ledger, histories, and demand 3 proved over every history
+// (proofs/Demand3.antt). FORMAT, "The index of seconds", "The ledger". No function here; the functions of the index cite these
+// definitions and share these numbers.
+
+// The cells of a row, and of a second.
+pub const WIDTH: usize = 20;
+
+// A cell is less than this.
+pub const CELL_LIMIT: u64 = 4_294_967_296;
+
+// What makes a sample, and 0 less a sample, a number from 0 up; and a sample a number from 1 up.
+pub const SAMPLE_OFFSET: u64 = 128;
+
+pub const GREATEST_OFFSET: u64 = 129;
+
+// The milliseconds of a second.
+pub const SECOND_MS: u64 = 1000;
 
 // What opening returns. It never changes and goes into every later call: the first second and the number of seconds of the
 // window, the highest record number, and the values of the pattern record that every record put must share.

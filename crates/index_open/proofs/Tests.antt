@@ -1,4 +1,4 @@
--- Tests of 01's sums and products made without them, so that no number can wrap: F + C against the day, a second against the
+-- Tests of sums and products made without them, so that no number can wrap: F + C against the day, a second against the
 -- window, and cells against rows. Assumes nothing.
 use Prim.Native.Nat.{ℕ, _+_, _-_, _*_, _/_, _<_, _≤_}
 use mathlib.Core.Path.{_≡_, sym, _∙_}
@@ -10,7 +10,7 @@ use borrow.Author.Tests.{lt-ltb, le-ltb, le-leb, lt-leb}
 use Rattle.lists.proofs.Order.{le-or-lt}
 use Rattle.index_model.specs.declared.Opening.{Opening}
 use Rattle.index_model.specs.Cells.{width}
-use Rattle.index_model.specs.Opening.{daySeconds, inWindow}
+use Rattle.index_model.specs.Opening.{daySeconds, inWindow, placeOf}
 
 -- two tests that hold in the same cases
 same-test : (a b c d : ℕ) → (a < b → c < d) → (b ≤ a → d ≤ c) → ltb a b ≡ ltb c d
@@ -38,6 +38,9 @@ module _ (o : Opening) (s : ℕ) where
   pub before-window : s < F → false ≡ inWindow o s
   unfolding inWindow
   before-window h = sym (λ i. lt-leb F s h i && ltb s (F + C))
+
+  pub before-first : s < F → 0 ≡ placeOf o s
+  before-first h = omega arith
 
   pub from-window : F ≤ s → ltb (s - F) C ≡ inWindow o s
   unfolding inWindow

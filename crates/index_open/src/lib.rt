@@ -1,5 +1,5 @@
-// Opening the index of seconds, 01's book, and what its value decides without a look at any cell: 13 to 17. Every public function
-// here takes any values; a refusal is 01's number, and 0 is none.
+// Opening the index of seconds, and what its value decides without a look at any cell: 13 to 17. FORMAT, "The index of seconds",
+// "Refusal numbers". Every public function here takes any values; 0 is no refusal.
 ghost use mathlib.Core.Path.{_≡_};
 ghost use mathlib.Core.List.{[], _∷_};
 ghost use Prim.Native.Nat.{_+_, _*_, _≤_};
@@ -9,14 +9,12 @@ ghost use Rattle.lists.specs.Fill.{over};
 ghost use Rattle.answers.specs.Refusal.{_when_, first, _then_};
 ghost use Rattle.record.specs.Record.{recordRefusal};
 ghost use Rattle.index_model.specs.Cells.{width};
-ghost use Rattle.index_model.specs.Opening.{daySeconds, limitsWrong, heldWrong, tooSmall, openingRefusal, otherReel, isOutside, inWindow, openingOf, openAnswer, openRows, openSeconds};
+ghost use Rattle.index_model.specs.Buffers.{lent};
+ghost use Rattle.index_model.specs.Opening.{daySeconds, limitsWrong, heldWrong, tooSmall, openingRefusal, otherReel, isOutside, inWindow, placeOf, openingOf, openAnswer, opened};
 ghost use Rattle.index_model.specs.Calls.{fullCount};
 ghost use Rattle.index_open.specs.Shown.{shownOpen};
-use header::Header;
 use index_model::Opening;
-
-// The cells of a row, and of a second.
-const WIDTH: usize = 20;
+use index_model::WIDTH;
 
 // The highest record number that an index can have.
 const HIGHEST_LIMIT: u64 = 65_535;
@@ -57,7 +55,8 @@ fn held_wrong(o: Opening) -> bool
     ensures { λ r. ⌜ r ≡ heldWrong o ⌝ }
 {
     let rate = sample_rates::sample_rate_of(o.sample_rate_hz);
-    (rate.hz == 0) | (o.tape_number == 0) | ((o.year > 99) | ((o.day == 0) | (o.day > 366)))
+    let date = checks::wrong_date(o.year, o.day);
+    (rate.hz == 0) | (o.tape_number == 0) | date
 }
 
 // Whether so many cells are fewer than those of so many rows or seconds; no product, so that no count can wrap.
@@ -68,48 +67,41 @@ fn fewer_cells(cells: usize, count: u64) -> bool
     whole < count
 }
 
-// Whether the two buffers have too few cells.
-fn too_small(o: Opening, rows: usize, seconds: usize) -> bool
-    ensures { λ r. ⌜ r ≡ tooSmall o rows seconds ⌝ }
+// Whether the lent buffers have too few cells.
+fn too_small(o: Opening, rows: &[u32], seconds: &[u32]) -> bool
+    ensures { λ r. ⌜ r ≡ tooSmall o (lent (now (rows .entry)) (now (seconds .entry))) ⌝ }
 {
-    let few_rows = fewer_cells(rows, o.highest_number);
-    let few_seconds = fewer_cells(seconds, o.second_count);
+    let few_rows = fewer_cells(rows.len(), o.highest_number);
+    let few_seconds = fewer_cells(seconds.len(), o.second_count);
     few_rows | few_seconds
 }
 
-// 13 where the limits are wrong, else 14 where the buffers are too small, else 0.
-fn limits_refusal(wrong: bool, small: bool) -> u8
-    ensures { λ r. ⌜ r ≡ first (13 when wrong ∷ 14 when small ∷ []) ⌝ }
-{
-    if wrong {
-        return 13;
-    }
-    if small {
-        return 14;
-    }
-    0
-}
-
-// The refusal that every call after opening gives for the value that opening returned and for buffers of these lengths.
-pub fn opening_refusal(o: Opening, rows: usize, seconds: usize) -> u8
-    ensures { λ r. ⌜ r ≡ openingRefusal o rows seconds ⌝ }
+// The refusal that every call after opening gives for the value that opening returned and for the lent buffers.
+pub fn opening_refusal(o: Opening, rows: &[u32], seconds: &[u32]) -> u8
+    ensures { λ r. ⌜ r ≡ openingRefusal o (lent (now (rows .entry)) (now (seconds .entry))) ⌝ }
 {
     let limits = limits_wrong(o);
     let held = held_wrong(o);
-    let small = too_small(o, rows, seconds);
-    limits_refusal(limits | held, small)
+    let small = answers::check(14, too_small(o, rows, seconds), 0);
+    answers::check(13, limits | held, small)
 }
 
-// Whether a record with this header is of another reel.
-pub fn other_reel(o: Opening, h: Header) -> bool
-    ensures { λ r. ⌜ r ≡ otherReel o h ⌝ }
+// Whether a record is of another reel.
+pub fn other_reel(o: Opening, bytes: &[u8]) -> bool
+    ensures { λ r. ⌜ r ≡ otherReel o (now (bytes .entry)) ⌝ }
 {
-    (h.sample_rate_hz != o.sample_rate_hz)
-        | (h.year != o.year)
-        | (h.day != o.day)
-        | (h.tape_number != o.tape_number)
-        | (h.spacecraft != o.spacecraft)
-        | (h.spc != o.spc)
+    let sample_rate = fields::read_field(bytes, header::SAMPLE_RATE);
+    let year = fields::read_field(bytes, header::YEAR);
+    let day = fields::read_field(bytes, header::DAY);
+    let tape_number = fields::read_field(bytes, header::TAPE_NUMBER);
+    let spacecraft = fields::read_field(bytes, header::SPACECRAFT);
+    let spc = fields::read_field(bytes, header::SPC);
+    (sample_rate != o.sample_rate_hz)
+        | (year != o.year)
+        | (day != o.day)
+        | (tape_number != o.tape_number)
+        | (spacecraft != o.spacecraft)
+        | (spc != o.spc)
 }
 
 // Whether a record number is outside 1 to R.
@@ -129,6 +121,16 @@ pub fn in_window(o: Opening, s: u64) -> bool
     s - o.first_second < o.second_count
 }
 
+// The place of a second among those of the window, from 0; of one before the window, 0.
+pub fn place_of(o: Opening, s: u64) -> u64
+    ensures { λ r. ⌜ r ≡ placeOf o s ⌝ }
+{
+    if s < o.first_second {
+        return 0;
+    }
+    s - o.first_second
+}
+
 // L: the records of a full second; 0 where the held rate is none.
 pub fn full_count(o: Opening) -> u64
     ensures { λ r. ⌜ r ≡ fullCount o ⌝ }
@@ -141,25 +143,25 @@ pub fn full_count(o: Opening) -> u64
 fn opening_of(pattern: &[u8], first_second: u64, second_count: u64, highest_number: u64) -> Opening
     ensures { λ r. ⌜ r ≡ openingOf (now (pattern .entry)) «first_second» «second_count» «highest_number» ⌝ }
 {
-    let h = header::read_fields(pattern);
     Opening {
         first_second,
         second_count,
         highest_number,
-        sample_rate_hz: h.sample_rate_hz,
-        tape_number: h.tape_number,
-        year: h.year,
-        day: h.day,
-        spacecraft: h.spacecraft,
-        spc: h.spc,
+        sample_rate_hz: fields::read_field(pattern, header::SAMPLE_RATE),
+        tape_number: fields::read_field(pattern, header::TAPE_NUMBER),
+        year: fields::read_field(pattern, header::YEAR),
+        day: fields::read_field(pattern, header::DAY),
+        spacecraft: fields::read_field(pattern, header::SPACECRAFT),
+        spc: fields::read_field(pattern, header::SPC),
     }
 }
 
-// The refusal of the pattern, then that of the limits and of buffers of these lengths.
-fn judge(pattern: &[u8], o: Opening, rows: usize, seconds: usize) -> u8
-    ensures { λ r. ⌜ r ≡ recordRefusal (now (pattern .entry)) then first (13 when limitsWrong o ∷ 14 when tooSmall o rows seconds ∷ []) ⌝ }
+// The refusal of the pattern, then that of the limits and of the lent buffers.
+fn judge(pattern: &[u8], o: Opening, rows: &[u32], seconds: &[u32]) -> u8
+    ensures { λ r. ⌜ r ≡ recordRefusal (now (pattern .entry)) then first (13 when limitsWrong o ∷ 14 when tooSmall o (lent (now (rows .entry)) (now (seconds .entry))) ∷ []) ⌝ }
 {
-    let limits = limits_refusal(limits_wrong(o), too_small(o, rows, seconds));
+    let small = answers::check(14, too_small(o, rows, seconds), 0);
+    let limits = answers::check(13, limits_wrong(o), small);
     answers::first_refusal(record::refusal_of(pattern), limits)
 }
 
@@ -184,12 +186,12 @@ pub fn open(
     rows: &mut [u32],
     seconds: &mut [u32],
 ) -> OpenAnswer
-    ensures { λ r. ⌜ shownOpen r ≡ openAnswer (now (pattern .entry)) «first_second» «second_count» «highest_number» (now (rows .entry)) (now (seconds .entry)) ⌝ }
-    ensures { λ r. ⌜ now (rows .exit) ≡ openRows (now (pattern .entry)) «first_second» «second_count» «highest_number» (now (rows .entry)) (now (seconds .entry)) ⌝ }
-    ensures { λ r. ⌜ now (seconds .exit) ≡ openSeconds (now (pattern .entry)) «first_second» «second_count» «highest_number» (now (rows .entry)) (now (seconds .entry)) ⌝ }
+    ensures { λ r. ⌜ shownOpen r ≡ openAnswer (now (pattern .entry)) «first_second» «second_count» «highest_number» (lent (now (rows .entry)) (now (seconds .entry))) ⌝ }
+    ensures { λ r. ⌜ now (rows .exit) ≡ opened (now (pattern .entry)) «first_second» «second_count» «highest_number» (lent (now (rows .entry)) (now (seconds .entry))) .rows ⌝ }
+    ensures { λ r. ⌜ now (seconds .exit) ≡ opened (now (pattern .entry)) «first_second» «second_count» «highest_number» (lent (now (rows .entry)) (now (seconds .entry))) .seconds ⌝ }
 {
     let o = opening_of(pattern, first_second, second_count, highest_number);
-    let n = judge(pattern, o, rows.len(), seconds.len());
+    let n = judge(pattern, o, rows, seconds);
     if n == 0 {
         clear(rows, WIDTH * (highest_number as usize));
         clear(seconds, WIDTH * (second_count as usize));

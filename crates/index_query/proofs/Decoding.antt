@@ -14,9 +14,10 @@ use mir.Syntax.{w64}
 use mir.Val.{SFits, toZ, ofZ}
 use mir.ValLaws.{toZ-pos, toZ-ofZ}
 use Rattle.sample_rates.specs.declared.SampleRate.{SampleRate}
-use Rattle.sample_rates.specs.Rates.{sampleRateOf, samplesPerRecord}
+use Rattle.sample_rates.specs.Rates.{sampleRateOf, samplesPerRecord, mostSamples}
 use Rattle.sample_rates.proofs.Lines.{rate-line}
 use Rattle.totals.specs.Total.{noTotal}
+use Rattle.index_model.specs.Cells.{cellLimit, sampleOffset}
 use Rattle.index_model.specs.Calls.{channelShown, totalFrom}
 use Rattle.index_model.proofs.Differences.{minus-sub}
 use Rattle.index_query.specs.Inner.{sampleLimit}
@@ -24,44 +25,44 @@ use Rattle.index_query.specs.Exact.{exactLimit, ExactTotal}
 
 -- ## counts
 
--- what a line of the table of rates says, and no line says more than 1,000
-samples-most : (hz : ℕ) → samplesPerRecord (sampleRateOf hz) ≤ 1000
+-- what a line of the table of rates says at most
+samples-most : (hz : ℕ) → samplesPerRecord (sampleRateOf hz) ≤ mostSamples
 samples-most hz =
-    ⊎-elim (λ e. subst (λ (l : SampleRate). samplesPerRecord l ≤ 1000) (sym e) (omega arith)) (λ l. l .most) (rate-line hz)
+    ⊎-elim (λ e. subst (λ (l : SampleRate). samplesPerRecord l ≤ mostSamples) (sym e) (omega arith)) (λ l. l .most) (rate-line hz)
 
-pub count-most : (records hz : ℕ) (rate : SampleRate) → rate ≡ sampleRateOf hz → records < 4294967296 → records * samplesPerRecord rate ≤ sampleLimit
+pub count-most : (records hz : ℕ) (rate : SampleRate) → rate ≡ sampleRateOf hz → records < cellLimit → records * samplesPerRecord rate ≤ sampleLimit
 count-most records hz rate e h =
-    mul-le-mul {n₁ = records} {m₁ = samplesPerRecord rate} {n₂ = 4294967296} {m₂ = 1000} (omega arith)
-    (subst (λ (l : SampleRate). samplesPerRecord l ≤ 1000) (sym e) (samples-most hz))
+    mul-le-mul {n₁ = records} {m₁ = samplesPerRecord rate} {n₂ = cellLimit} {m₂ = mostSamples} (omega arith)
+    (subst (λ (l : SampleRate). samplesPerRecord l ≤ mostSamples) (sym e) (samples-most hz))
 
 -- ## the sum
 
-difference-fits : (a b : ℕ) → a < 4294967296 → b ≤ 128 * sampleLimit → SFits w64 (pos a -ℤ pos b)
+difference-fits : (a b : ℕ) → a < cellLimit → b ≤ sampleOffset * sampleLimit → SFits w64 (pos a -ℤ pos b)
 difference-fits a b p q = subst (SFits w64) (sym (minus-sub a b)) (by-test (ltb a b))
   where
     by-test : (t : Bool) → SFits w64 (cond t (negsuc (b - suc a)) (pos (a - b)))
     by-test true = record { sfits = omega arith }
     by-test false = record { sfits = omega arith }
 
-difference-exact : (a b : ℕ) → a < 4294967296 → b ≤ 128 * sampleLimit → natAbs (pos a -ℤ pos b) ≤ exactLimit
+difference-exact : (a b : ℕ) → a < cellLimit → b ≤ sampleOffset * sampleLimit → natAbs (pos a -ℤ pos b) ≤ exactLimit
 difference-exact a b p q = subst (λ (z : ℤ). natAbs z ≤ exactLimit) (sym (minus-sub a b)) (by-test (ltb a b))
   where
     by-test : (t : Bool) → natAbs (cond t (negsuc (b - suc a)) (pos (a - b))) ≤ exactLimit
     by-test true = omega arith
     by-test false = omega arith
 
-module _ (x count : ℕ) (p : x < 4294967296) (q : count ≤ sampleLimit) where
-  read : toZ w64 x -ℤ toZ w64 (128 * count) ≡ pos x -ℤ pos (128 * count)
-  read = λ t. toZ-pos w64 x (omega arith) t -ℤ toZ-pos w64 (128 * count) (omega arith) t
+module _ (x count : ℕ) (p : x < cellLimit) (q : count ≤ sampleLimit) where
+  read : toZ w64 x -ℤ toZ w64 (sampleOffset * count) ≡ pos x -ℤ pos (sampleOffset * count)
+  read = λ t. toZ-pos w64 x (omega arith) t -ℤ toZ-pos w64 (sampleOffset * count) (omega arith) t
 
-  pub sum-fits : SFits w64 (toZ w64 x -ℤ toZ w64 (128 * count))
-  sum-fits = subst (SFits w64) (sym read) (difference-fits x (128 * count) p (omega arith))
+  pub sum-fits : SFits w64 (toZ w64 x -ℤ toZ w64 (sampleOffset * count))
+  sum-fits = subst (SFits w64) (sym read) (difference-fits x (sampleOffset * count) p (omega arith))
 
-  pub sum-read : toZ w64 (ofZ w64 (toZ w64 x -ℤ toZ w64 (128 * count))) ≡ pos x -ℤ pos (128 * count)
-  sum-read = toZ-ofZ w64 (toZ w64 x -ℤ toZ w64 (128 * count)) sum-fits ∙ read
+  pub sum-read : toZ w64 (ofZ w64 (toZ w64 x -ℤ toZ w64 (sampleOffset * count))) ≡ pos x -ℤ pos (sampleOffset * count)
+  sum-read = toZ-ofZ w64 (toZ w64 x -ℤ toZ w64 (sampleOffset * count)) sum-fits ∙ read
 
-  pub sum-exact : natAbs (toZ w64 (ofZ w64 (toZ w64 x -ℤ toZ w64 (128 * count)))) ≤ exactLimit
-  sum-exact = subst (λ (z : ℤ). natAbs z ≤ exactLimit) (sym sum-read) (difference-exact x (128 * count) p (omega arith))
+  pub sum-exact : natAbs (toZ w64 (ofZ w64 (toZ w64 x -ℤ toZ w64 (sampleOffset * count)))) ≤ exactLimit
+  sum-exact = subst (λ (z : ℤ). natAbs z ≤ exactLimit) (sym sum-read) (difference-exact x (sampleOffset * count) p (omega arith))
 
 -- ## the total
 

@@ -4,10 +4,12 @@ use mathlib.Core.Bool.{Bool, true, _&&_}
 use mathlib.Core.List.{List}
 use lib.Dec.{eqb}
 use lib.ListN.{getD}
+use Rattle.sample_rates.specs.Rates.{mostSamples}
+use Rattle.index_model.specs.Cells.{cellLimit}
 
--- no second has more samples of a channel, whatever its cells hold: a count of 32 bits, of at most 1,000 samples each
+-- no second has more samples of a channel, whatever its cells hold
 abbrev pub sampleLimit : ℕ
-sampleLimit = 4294967296 * 1000
+sampleLimit = cellLimit * mostSamples
 
 -- the first n cells of two lists are the same
 unfoldable pub sameTo : List ℕ → List ℕ → ℕ → Bool

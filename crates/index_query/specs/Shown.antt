@@ -1,4 +1,4 @@
--- The number and the values of 01 for each case of the code's answers.
+-- The number and the values for each case of the code's answers.
 use mathlib.Core.Bool.{Bool, false}
 use Rattle.answers.specs.Answer.{Answer, accepted, refused, told}
 use Rattle.index_model.specs.Second.{SecondTotals}

@@ -1,21 +1,20 @@
-// Questions to the index about a second, and the test of its cells. 01: "The book", "Ask: 13, 14, 17", "A book test (13, 14)".
-// Every function here takes any value of an opening and any cells, and changes none; a refusal is 01's number, and 0 is none.
+// Questions to the index about a second, and the test of its cells. FORMAT, "The index of seconds", "Refusal numbers". Every public
+// function here takes any value of an opening and any cells, and changes none; 0 is no refusal.
 ghost use mathlib.Core.Path.{_≡_};
-ghost use mathlib.Core.Bool.{not, _||_};
-ghost use mathlib.Core.List.{[], _∷_};
+ghost use mathlib.Core.Bool.{_||_};
 ghost use Prim.Native.Nat.{_*_, _≤_, _<_};
 ghost use lib.Dec.{eqb};
 ghost use lib.IntN.{pos, natAbs, _-ℤ_};
-ghost use lib.ListN.{length};
+ghost use lib.ListN.{getD};
 ghost use Rattle.lists.specs.Fill.{tab};
 ghost use Rattle.sample_rates.specs.Rates.{sampleRateOf, samplesPerRecord};
 ghost use Rattle.answers.specs.Answer.{accepted, refused};
-ghost use Rattle.answers.specs.Refusal.{_when_, first, _then_};
 ghost use Rattle.index_model.specs.Second.{noSecond};
-ghost use Rattle.index_model.specs.Cells.{width};
-ghost use Rattle.index_model.specs.Opening.{openingRefusal, inWindow};
-ghost use Rattle.index_model.specs.Calls.{leastFrom, greatestFrom, totalFrom, keptFrom, secondShown, queryAnswer, rowsInside, cellsRight, secondsRight, consistencyAnswer};
-ghost use Rattle.index_cells.specs.Limits.{WithinLimits};
+ghost use Rattle.index_model.specs.Cells.{width, channelCell, sampleOffset};
+ghost use Rattle.index_model.specs.Buffers.{lent};
+ghost use Rattle.index_model.specs.Limits.{WithinLimits};
+ghost use Rattle.index_model.specs.Opening.{inWindow};
+ghost use Rattle.index_model.specs.Calls.{leastFrom, greatestFrom, totalFrom, keptFrom, secondShown, queryRefusal, queryAnswer, rowsInside, cellsRight, secondsRight, consistencyAnswer};
 ghost use Rattle.index_query.specs.Inner.{sampleLimit, sameTo};
 ghost use Rattle.index_query.specs.Exact.{exactLimit, ExactTotal, ExactTotals};
 ghost use Rattle.index_query.specs.Shown.{shownSecond, shownConsistency};
@@ -23,12 +22,11 @@ use index_cells::ERRORS;
 use index_cells::ORIGINS;
 use index_cells::RECORDS;
 use index_cells::SECOND;
-use index_cells::WIDTH;
+use index_model::GREATEST_OFFSET;
 use index_model::Opening;
+use index_model::SAMPLE_OFFSET;
+use index_model::WIDTH;
 use totals::Total;
-
-// What each sample adds to the cell of the sum beside its own value.
-const SUM_OFFSET: u64 = 128;
 
 // A second's totals and verdict, beside the refusal. An enum cannot hold an array, so the refusal is a field; with one, every
 // other field is 0.
@@ -48,30 +46,38 @@ pub enum ConsistencyAnswer {
     Refused(u8),
 }
 
-// The least sample: 128 less its cell, as a signed byte.
+// The least sample: the offset less its cell, as a signed byte.
 fn least_from(x: u32) -> i8
     ensures { λ r. ⌜ r ≡ leastFrom x ⌝ }
 {
-    channels::signed(((384 - x % 256) % 256) as u8)
+    channels::signed(((256 + SAMPLE_OFFSET - (x as u64) % 256) % 256) as u8)
 }
 
-// The greatest sample: its cell less 129, as a signed byte.
+// The greatest sample: its cell less its offset, as a signed byte.
 fn greatest_from(x: u32) -> i8
     ensures { λ r. ⌜ r ≡ greatestFrom x ⌝ }
 {
-    channels::signed(((x % 256 + 127) % 256) as u8)
+    channels::signed((((x as u64) + (256 - GREATEST_OFFSET)) % 256) as u8)
 }
 
-// The sum of so many samples: its cell is the sum of (sample + 128).
+// The sum of so many samples: its cell has the offset of each beside its value.
 fn sum_from(x: u32, count: u64) -> i64
     requires { ⌜ count ≤ sampleLimit ⌝ }
-    ensures { λ r. ⌜ (r ≡ pos x -ℤ pos (128 * count)) × (natAbs r ≤ exactLimit) ⌝ }
+    ensures { λ r. ⌜ (r ≡ pos x -ℤ pos (sampleOffset * count)) × (natAbs r ≤ exactLimit) ⌝ }
 {
-    (x as i64) - ((SUM_OFFSET * count) as i64)
+    (x as i64) - ((SAMPLE_OFFSET * count) as i64)
+}
+
+// Cell j (0 to 3) of a channel (1 to 4).
+fn channel_cell(cells: [u32; WIDTH], channel: usize, j: usize) -> u32
+    requires { ⌜ (channel ≤ 4) × (j < 4) ⌝ }
+    ensures { λ r. ⌜ r ≡ getD cells (channelCell channel j) 0 ⌝ }
+{
+    cells[4 * channel + j]
 }
 
 // The total of a channel (1 to 4) from the cells of a second that has so many samples of it.
-fn total_from(cells: [u32; 20], count: u64, channel: usize) -> Total
+fn total_from(cells: [u32; WIDTH], count: u64, channel: usize) -> Total
     requires { ⌜ (count ≤ sampleLimit) × (1 ≤ channel) × (channel ≤ 4) ⌝ }
     ensures { λ r. ⌜ (r ≡ totalFrom count cells channel) × ExactTotal r ⌝ }
 {
@@ -83,17 +89,16 @@ fn total_from(cells: [u32; 20], count: u64, channel: usize) -> Total
             greatest: 0,
         };
     }
-    let at = 4 * channel;
     Total {
-        sum: sum_from(cells[at], count),
-        squares: index_cells::wide(cells[at + 1]),
-        least: least_from(cells[at + 2]),
-        greatest: greatest_from(cells[at + 3]),
+        sum: sum_from(channel_cell(cells, channel, 0), count),
+        squares: index_cells::wide(channel_cell(cells, channel, 1)),
+        least: least_from(channel_cell(cells, channel, 2)),
+        greatest: greatest_from(channel_cell(cells, channel, 3)),
     }
 }
 
 // Whether a second is KEPT, where so many records make it full.
-fn is_kept(cells: [u32; 20], full: u64) -> bool
+fn is_kept(cells: [u32; WIDTH], full: u64) -> bool
     ensures { λ r. ⌜ r ≡ keptFrom full cells ⌝ }
 {
     let records = index_cells::wide(cells[RECORDS]);
@@ -109,7 +114,7 @@ pub fn sample_count(o: Opening, records: u32) -> u64
 }
 
 // The totals of channels 1 to 4.
-fn totals_from(cells: [u32; 20], count: u64) -> [Total; 4]
+fn totals_from(cells: [u32; WIDTH], count: u64) -> [Total; 4]
     requires { ⌜ count ≤ sampleLimit ⌝ }
     ensures { λ r. ⌜ (r ≡ tab (totalFrom count cells) 1 4) × ExactTotals r ⌝ }
 {
@@ -121,7 +126,7 @@ fn totals_from(cells: [u32; 20], count: u64) -> [Total; 4]
 }
 
 // What the cells of a second say.
-fn second_from(o: Opening, cells: [u32; 20]) -> SecondAnswer
+fn second_from(o: Opening, cells: [u32; WIDTH]) -> SecondAnswer
     ensures { λ r. ⌜ (shownSecond r ≡ accepted (secondShown o cells)) × ExactTotals (r .channels) ⌝ }
 {
     let count = sample_count(o, cells[RECORDS]);
@@ -157,32 +162,22 @@ fn no_second(refusal: u8) -> SecondAnswer
     }
 }
 
-// 17 for a second outside the window, or 0.
-fn window_refusal(o: Opening, second: u64) -> u8
-    ensures { λ r. ⌜ r ≡ first (17 when not (inWindow o second) ∷ []) ⌝ }
+// The refusal of a question about a second, or 0.
+fn judge(o: Opening, second: u64, rows: &[u32], seconds: &[u32]) -> u8
+    ensures { λ r. ⌜ r ≡ queryRefusal o second (lent (now (rows .entry)) (now (seconds .entry))) ⌝ }
 {
-    if index_open::in_window(o, second) {
-        return 0;
-    }
-    17
-}
-
-// The refusal of a question about a second, with buffers of these lengths, or 0.
-fn judge(o: Opening, second: u64, rows: usize, seconds: usize) -> u8
-    ensures { λ r. ⌜ r ≡ openingRefusal o rows seconds then first (17 when not (inWindow o second) ∷ []) ⌝ }
-{
-    let outside = window_refusal(o, second);
+    let outside = answers::check(17, !index_open::in_window(o, second), 0);
     answers::first_refusal(index_open::opening_refusal(o, rows, seconds), outside)
 }
 
 // A second's totals and verdict. On any cells, a 64-bit float holds each sum and each sum of squares exactly.
 pub fn query(o: Opening, second: u64, rows: &[u32], seconds: &[u32]) -> SecondAnswer
-    ensures { λ r. ⌜ shownSecond r ≡ queryAnswer o second (now (rows .entry)) (now (seconds .entry)) ⌝ }
+    ensures { λ r. ⌜ shownSecond r ≡ queryAnswer o second (lent (now (rows .entry)) (now (seconds .entry))) ⌝ }
     ensures { λ r. ⌜ ExactTotals (r .channels) ⌝ }
 {
-    let n = judge(o, second, rows.len(), seconds.len());
+    let n = judge(o, second, rows, seconds);
     if n == 0 {
-        let place = second - o.first_second;
+        let place = index_open::place_of(o, second);
         return second_from(o, index_cells::block(seconds, place));
     }
     no_second(n)
@@ -198,15 +193,14 @@ fn row_inside(o: Opening, held: u32, own: u32) -> bool
 
 // Whether no held row has a second outside the window.
 fn rows_inside(o: Opening, rows: &[u32]) -> bool
-    requires { ⌜ width * o .«highest_number» ≤ length (now rows) ⌝ }
     ensures { λ r. ⌜ r ≡ rowsInside o (now (rows .entry)) (o .«highest_number») ⌝ }
 {
-    let count = o.highest_number as usize;
+    let count = o.highest_number;
     let mut inside = true;
-    let mut i: usize = 0;
+    let mut i: u64 = 0;
     while i < count {
-        let at = WIDTH * i;
-        let next = row_inside(o, rows[at + RECORDS], rows[at + SECOND]);
+        let held = index_cells::read_cell(rows, i, RECORDS);
+        let next = row_inside(o, held, index_cells::read_cell(rows, i, SECOND));
         inside = inside & next;
         i += 1;
     }
@@ -214,7 +208,7 @@ fn rows_inside(o: Opening, rows: &[u32]) -> bool
 }
 
 // Whether the cells of two seconds are the same.
-fn same_cells(a: [u32; 20], b: [u32; 20]) -> bool
+fn same_cells(a: [u32; WIDTH], b: [u32; WIDTH]) -> bool
     ensures { λ r. ⌜ r ≡ sameTo a b width ⌝ }
 {
     let mut same = true;
@@ -229,8 +223,8 @@ fn same_cells(a: [u32; 20], b: [u32; 20]) -> bool
 
 // Whether the cells of second k of the window are those that the rows give.
 fn second_right(o: Opening, rows: &[u32], seconds: &[u32], k: u64) -> bool
-    requires { ⌜ WithinLimits o (length (now rows)) (length (now seconds)) × (k < o .«second_count») ⌝ }
-    ensures { λ r. ⌜ r ≡ cellsRight o (now (rows .entry)) (now (seconds .entry)) k width ⌝ }
+    requires { ⌜ WithinLimits o (lent (now rows) (now seconds)) × (k < o .«second_count») ⌝ }
+    ensures { λ r. ⌜ r ≡ cellsRight o (lent (now (rows .entry)) (now (seconds .entry))) k width ⌝ }
 {
     let second = o.first_second + k;
     let given = index_cells::second_cells(rows, second, o.highest_number);
@@ -239,8 +233,8 @@ fn second_right(o: Opening, rows: &[u32], seconds: &[u32], k: u64) -> bool
 
 // Whether the cells of every second of the window are those that the rows give.
 fn seconds_right(o: Opening, rows: &[u32], seconds: &[u32]) -> bool
-    requires { ⌜ WithinLimits o (length (now rows)) (length (now seconds)) ⌝ }
-    ensures { λ r. ⌜ r ≡ secondsRight o (now (rows .entry)) (now (seconds .entry)) (o .«second_count») ⌝ }
+    requires { ⌜ WithinLimits o (lent (now rows) (now seconds)) ⌝ }
+    ensures { λ r. ⌜ r ≡ secondsRight o (lent (now (rows .entry)) (now (seconds .entry))) (o .«second_count») ⌝ }
 {
     let count = o.second_count;
     let mut right = true;
@@ -255,9 +249,9 @@ fn seconds_right(o: Opening, rows: &[u32], seconds: &[u32]) -> bool
 
 // Whether no held row has a second outside the window and the second cells are those that the rows give.
 pub fn is_consistent(o: Opening, rows: &[u32], seconds: &[u32]) -> ConsistencyAnswer
-    ensures { λ r. ⌜ shownConsistency r ≡ consistencyAnswer o (now (rows .entry)) (now (seconds .entry)) ⌝ }
+    ensures { λ r. ⌜ shownConsistency r ≡ consistencyAnswer o (lent (now (rows .entry)) (now (seconds .entry))) ⌝ }
 {
-    let n = index_open::opening_refusal(o, rows.len(), seconds.len());
+    let n = index_open::opening_refusal(o, rows, seconds);
     if n == 0 {
         let inside = rows_inside(o, rows);
         let right = seconds_right(o, rows, seconds);

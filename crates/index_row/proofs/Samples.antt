@@ -1,20 +1,32 @@
--- The totals of a record's sample stretch are bounded. Assumes nothing.
-use Prim.Native.Nat.{ℕ, zero, suc, _≤_}
-use mathlib.Core.Path.{_≡_, sym, subst}
+-- The sample stretch of any bytes is no longer than a record's, and its totals are bounded. Assumes nothing.
+use Prim.Native.Nat.{ℕ, zero, suc, _*_, _≤_, _<_}
+use mathlib.Core.Path.{_≡_, ap, sym, subst, _∙_}
 use mathlib.Core.List.{List}
 use native.Mathlib.Omega.{arith}
 use lib.IntN.{ℤ}
-use lib.ListN.{length}
-use mir.Syntax.{w8}
-use mir.Val.{SFits}
+use lib.ListN.{length, length-take}
 use Rattle.lists.proofs.Fill.{length-tab}
+use Rattle.bits.proofs.Bits.{getBits-lt}
 use Rattle.channels.specs.Sample.{sampleOf, samplesOf}
+use Rattle.fields.specs.Field.{start, width, valueOf}
+use Rattle.header.specs.Rows.{timeTag}
+use Rattle.sample_rates.specs.Rates.{mostSamples}
+use Rattle.record.specs.Stretch.{stretchOf}
+use Rattle.record.proofs.Count.{count-small}
 use Rattle.totals.specs.declared.Total.{Total}
-use Rattle.totals.specs.Total.{totalOf, totalsOf}
+use Rattle.totals.specs.Total.{totalOf, totalsOf, setCount}
 use Rattle.totals.proofs.Samples.{samples-bytes}
 use Rattle.totals.proofs.Sums.{sum-bound, squares-bound}
-use Rattle.totals.proofs.Extremes.{least-byte, greatest-byte}
+use Rattle.index_model.specs.Cells.{cellLimit, samplesIn}
 use Rattle.index_row.specs.Row.{Bounded, AllBounded}
+
+pub stretch-most : (b : List ℕ) → length (stretchOf b) ≤ 4 * mostSamples
+unfolding stretchOf
+stretch-most b = simp length-take (omega (arith, count-small b))
+
+pub tag-small : (b : List ℕ) → valueOf timeTag b < cellLimit
+unfolding valueOf
+tag-small b = omega (arith, getBits-lt (start timeTag) (width timeTag) b)
 
 -- a channel's total over n samples
 module _ (stretch : List ℕ) (channel n : ℕ) where
@@ -24,7 +36,7 @@ module _ (stretch : List ℕ) (channel n : ℕ) where
   samples-length : length samples ≡ n
   samples-length = length-tab (sampleOf stretch channel) 0 n
 
-  pub total-bounded : n ≤ 1000 → Bounded n (totalOf samples)
+  total-bounded : n ≤ mostSamples → Bounded n (totalOf samples)
   unfolding totalOf
   total-bounded few =
       record {
@@ -33,12 +45,8 @@ module _ (stretch : List ℕ) (channel n : ℕ) where
         squared = omega (arith, squares-bound samples (samples-bytes stretch channel n), samples-length);
       }
 
-  pub total-bytes : SFits w8 (totalOf samples .least) × SFits w8 (totalOf samples .greatest)
-  unfolding totalOf
-  total-bytes = (least-byte samples (samples-bytes stretch channel n), greatest-byte samples (samples-bytes stretch channel n))
-
 -- the totals of the four channels
-all-bounded : (stretch : List ℕ) (n : ℕ) → n ≤ 1000 → AllBounded n (totalsOf stretch n)
+all-bounded : (stretch : List ℕ) (n : ℕ) → n ≤ mostSamples → AllBounded n (totalsOf stretch n)
 unfolding totalsOf
 all-bounded stretch n few zero p q = absurd (let z : ⊥ = omega arith in z)
 all-bounded stretch n few (suc zero) p q = total-bounded stretch 1 n few
@@ -47,5 +55,9 @@ all-bounded stretch n few (suc (suc (suc zero))) p q = total-bounded stretch 3 n
 all-bounded stretch n few (suc (suc (suc (suc zero)))) p q = total-bounded stretch 4 n few
 all-bounded stretch n few (suc (suc (suc (suc (suc k))))) p q = absurd (let z : ⊥ = omega arith in z)
 
-pub totals-bounded : (stretch : List ℕ) (n : ℕ) {totals : List Total} → totals ≡ totalsOf stretch n → n ≤ 1000 → AllBounded n totals
+pub totals-bounded : (stretch : List ℕ) (n : ℕ) {totals : List Total} → totals ≡ totalsOf stretch n → n ≤ mostSamples → AllBounded n totals
 totals-bounded stretch n e few = subst (AllBounded n) (sym e) (all-bounded stretch n few)
+
+-- the totals over a record's stretch are those over all its samples
+pub all-totals : (stretch : List ℕ) {totals : List Total} → length stretch ≤ 4 * mostSamples → totals ≡ totalsOf stretch (setCount stretch) → totals ≡ totalsOf stretch (samplesIn stretch)
+all-totals stretch short e = e ∙ ap (totalsOf stretch) (omega arith)

@@ -1,31 +1,22 @@
-// The row of a record: the 20 cells that the index keeps of it. 01: "The book", "Each number has its own 20 row cells, its row".
+// The row of a record: the cells that the index keeps of it. FORMAT, "The index of seconds". Any bytes have one; the index asks for
+// that of accepted records.
 ghost use mathlib.Core.Path.{_≡_};
 ghost use mathlib.Core.List.{_∷_, _++_};
-ghost use Prim.Native.Nat.{_+_, _*_, _≤_};
+ghost use Prim.Native.Nat.{_*_, _≤_, _<_};
 ghost use lib.Dec.{eqb};
-ghost use lib.ListN.{length, take, drop};
-ghost use Rattle.header.specs.Header.{headerOf};
-ghost use Rattle.record.specs.Record.{headerBytes, recordRefusal};
-ghost use Rattle.totals.specs.Total.{totalsOf};
+ghost use lib.ListN.{length};
+ghost use Rattle.sample_rates.specs.Rates.{mostSamples};
 ghost use Rattle.totals.specs.Running.{totalAt};
-ghost use Rattle.index_model.specs.Cells.{channelCells, flag, rowOf};
-ghost use Rattle.index_row.specs.Row.{cellList, AllBounded, rowOrNone};
-use header::Header;
-use record::HeaderAnswer;
+ghost use Rattle.index_model.specs.Records.{secondOf};
+ghost use Rattle.index_model.specs.Cells.{cellLimit, channelCells, stretchCells, flag, rowOf};
+ghost use Rattle.index_row.specs.Row.{cellList, AllBounded};
+use index_model::GREATEST_OFFSET;
+use index_model::SAMPLE_OFFSET;
+use index_model::SECOND_MS;
+use index_model::WIDTH;
 use totals::Total;
 
-// They make a sum of samples a number from 0 up, and the least and the greatest sample numbers from 1 up.
-const SUM_OFFSET: usize = 128;
-
-const LEAST_OFFSET: i64 = 128;
-
-const GREATEST_OFFSET: i64 = 129;
-
-// The milliseconds of a second.
-const SECOND_MS: u64 = 1000;
-
-// The four cells of a channel: the sum of (sample + 128), the sum of squares, 128 less the least sample, and the greatest plus
-// 129.
+// The four cells of a channel, each with its offset.
 struct ChannelCells {
     sum: u32,
     squares: u32,
@@ -43,6 +34,13 @@ fn flag_cell(bit: u64) -> u32
     0
 }
 
+// The second of a record; the tag of any bytes is less than a cell can hold.
+pub fn second_of(bytes: &[u8]) -> u64
+    ensures { λ r. ⌜ (r ≡ secondOf (now (bytes .entry))) × (r < cellLimit) ⌝ }
+{
+    fields::read_field(bytes, header::TIME_TAG) / SECOND_MS
+}
+
 // The cells of a channel (1 to 4) that has so many samples.
 fn channel_cells(totals: [Total; 4], channel: usize, count: usize) -> ChannelCells
     requires { ⌜ (1 ≤ channel) × (channel ≤ 4) × AllBounded count totals ⌝ }
@@ -50,26 +48,16 @@ fn channel_cells(totals: [Total; 4], channel: usize, count: usize) -> ChannelCel
 {
     let at = channel - 1;
     let total = totals[at];
-    let sum = (total.sum + (SUM_OFFSET * count) as i64) as u32;
+    let sum = (total.sum + (SAMPLE_OFFSET * count as u64) as i64) as u32;
     let squares = total.squares as u32;
-    let least = (LEAST_OFFSET - total.least as i64) as u32;
-    let greatest = (total.greatest as i64 + GREATEST_OFFSET) as u32;
+    let least = (SAMPLE_OFFSET as i64 - total.least as i64) as u32;
+    let greatest = (total.greatest as i64 + GREATEST_OFFSET as i64) as u32;
     ChannelCells {
         sum,
         squares,
         least,
         greatest,
     }
-}
-
-// The totals of the four channels over the sample stretch of a record, from byte 80.
-fn record_totals(bytes: &[u8], count: usize) -> [Total; 4]
-    requires { ⌜ (count ≤ 1000) × (headerBytes + 4 * count ≤ length (now bytes)) ⌝ }
-    ensures { λ r. ⌜ r ≡ totalsOf (take (4 * count) (drop headerBytes (now (bytes .entry)))) count ⌝ }
-{
-    let end = record::HEADER_BYTES + 4 * count;
-    let stretch = &bytes[record::HEADER_BYTES..end];
-    totals::stretch_totals(stretch)
 }
 
 // The row of these cells, in their order.
@@ -81,7 +69,7 @@ fn row_from(
     two: ChannelCells,
     three: ChannelCells,
     four: ChannelCells,
-) -> [u32; 20]
+) -> [u32; WIDTH]
     ensures { λ r. ⌜ r ≡ 1 ∷ origin ∷ error ∷ second ∷ cellList one ++ (cellList two ++ (cellList three ++ cellList four)) ⌝ }
 {
     [
@@ -108,17 +96,13 @@ fn row_from(
     ]
 }
 
-// The row of an accepted record with this header.
-fn accepted_row(bytes: &[u8], h: Header) -> [u32; 20]
-    requires { ⌜ (recordRefusal (now bytes) ≡ 0) × (h ≡ headerOf (now bytes)) ⌝ }
-    ensures { λ r. ⌜ r ≡ rowOf (now (bytes .entry)) ⌝ }
+// The row with these flags and this second, and the cells of a stretch of samples.
+fn stretch_row(origin: u32, error: u32, second: u32, stretch: &[u8]) -> [u32; WIDTH]
+    requires { ⌜ length (now stretch) ≤ 4 * mostSamples ⌝ }
+    ensures { λ r. ⌜ r ≡ 1 ∷ origin ∷ error ∷ second ∷ stretchCells (now (stretch .entry)) ⌝ }
 {
-    let rate = sample_rates::sample_rate_of(h.sample_rate_hz);
-    let count = rate.samples as usize;
-    let totals = record_totals(bytes, count);
-    let origin = flag_cell(h.clock_origin);
-    let error = flag_cell(h.copy_error);
-    let second = (h.time_tag_ms / SECOND_MS) as u32;
+    let count = stretch.len() / 4;
+    let totals = totals::stretch_totals(stretch);
     row_from(
         origin,
         error,
@@ -130,12 +114,12 @@ fn accepted_row(bytes: &[u8], h: Header) -> [u32; 20]
     )
 }
 
-// The row of a record; 20 zeros for bytes that are not accepted.
-pub fn row_of(bytes: &[u8]) -> [u32; 20]
-    ensures { λ r. ⌜ r ≡ rowOrNone (now (bytes .entry)) ⌝ }
+// The row of any bytes.
+pub fn row_of(bytes: &[u8]) -> [u32; WIDTH]
+    ensures { λ r. ⌜ r ≡ rowOf (now (bytes .entry)) ⌝ }
 {
-    match record::read_header(bytes) {
-        HeaderAnswer::Accepted(h) => accepted_row(bytes, h),
-        HeaderAnswer::Refused(_) => [0; 20],
-    }
+    let origin = flag_cell(fields::read_field(bytes, header::CLOCK_ORIGIN));
+    let error = flag_cell(fields::read_field(bytes, header::COPY_ERROR));
+    let second = second_of(bytes) as u32;
+    stretch_row(origin, error, second, record::sample_stretch(bytes))
 }

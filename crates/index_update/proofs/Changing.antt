@@ -9,13 +9,14 @@ use lib.ListN.{length}
 use Rattle.lists.proofs.Truth.{right, holds, held}
 use Rattle.index_model.specs.declared.Opening.{Opening}
 use Rattle.index_model.specs.Cells.{width, blockAt, withBlock, merged, secondFrom}
+use Rattle.index_model.specs.Buffers.{lent}
+use Rattle.index_model.specs.Limits.{WithinLimits}
 use Rattle.index_model.specs.Opening.{inWindow, placeOf}
 use Rattle.index_model.specs.Calls.{leave, join}
 use Rattle.index_model.proofs.Limits.{in-window}
 use Rattle.index_cells.specs.Blocks.{blockOrNone, blockPut}
-use Rattle.index_cells.specs.Limits.{WithinLimits}
 use Rattle.index_cells.proofs.Parts.{held-block, held-put}
-use Rattle.index_cells.proofs.Limits.{block-put, all-rows}
+use Rattle.index_cells.proofs.Held.{block-put, all-rows}
 use Rattle.index_update.specs.Inner.{Placed}
 
 pub placed : (o : Opening) (s : ℕ) → inWindow o s ≡ true → Placed o s
@@ -29,10 +30,10 @@ module _ (o : Opening) (rows : List ℕ) (was old : ℕ) (seconds : List ℕ) wh
   abbrev anew : ℕ → List ℕ
   anew count = secondFrom rows old count
 
-  pub left-place : isLeft ≡ true → Placed o old
+  left-place : isLeft ≡ true → Placed o old
   left-place e = placed o old (holds (inWindow o old) (right (not (eqb was 0)) (inWindow o old) (held isLeft e)))
 
-  pub second-left : WithinLimits o (length rows) (length seconds) → isLeft ≡ true → blockPut seconds (placeOf o old) (anew (min (o .«highest_number») (length rows / width))) ≡ leave o rows was old seconds
+  pub second-left : WithinLimits o (lent rows seconds) → isLeft ≡ true → blockPut seconds (placeOf o old) (anew (min (o .«highest_number») (length rows / width))) ≡ leave o rows was old seconds
   unfolding leave
   second-left limits e =
       let p = left-place e in

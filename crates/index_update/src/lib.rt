@@ -1,23 +1,21 @@
-// Records put into the index of seconds, 01's book, and taken out. 01: "Put: 1 to 11, 13, 14, then 15 .. 16, 17, 18", "Take
-// out: 13, 14, 16, 19". Any bytes, any value of an opening and any cells; a refusal is 01's number, changes no cell, and 0 is none.
+// Records put into the index of seconds, and taken out. FORMAT, "The index of seconds", "Refusal numbers". Any bytes, any value of an
+// opening and any cells; a refusal changes no cell, and 0 is none.
 ghost use mathlib.Core.Path.{_≡_};
 ghost use mathlib.Core.Bool.{not, _&&_};
-ghost use Prim.Native.Nat.{_+_, _-_, _*_, _≤_};
+ghost use Prim.Native.Nat.{_+_, _-_, _*_, _≤_, _<_};
 ghost use lib.Dec.{eqb};
 ghost use lib.ListN.{length};
+ghost use Rattle.index_model.specs.Records.{numberOf, secondOf};
 ghost use Rattle.index_model.specs.Cells.{width, cell, withBlock, flag, rowWithin};
+ghost use Rattle.index_model.specs.Buffers.{lent};
+ghost use Rattle.index_model.specs.Limits.{WithinLimits};
 ghost use Rattle.index_model.specs.Opening.{inWindow};
-ghost use Rattle.index_model.specs.Calls.{leave, join, secondsInserted, isFull, insertRefusal, insertRows, insertSeconds, removeRefusal, removeRows, removeSeconds};
-ghost use Rattle.index_cells.specs.Limits.{WithinLimits};
-ghost use Rattle.index_update.specs.Inner.{Numbered, Placed, headerRefusal, numberRefusal};
-use header::Header;
+ghost use Rattle.index_model.specs.Calls.{leave, join, rowInserted, isFull, insertRefusal, inserted, removeRefusal, removed};
+ghost use Rattle.index_update.specs.Inner.{Placed};
 use index_cells::RECORDS;
 use index_cells::SECOND;
-use index_cells::WIDTH;
 use index_model::Opening;
-
-// The milliseconds of a second.
-const SECOND_MS: u64 = 1000;
+use index_model::WIDTH;
 
 fn one_if(b: bool) -> u64
     ensures { λ r. ⌜ (r ≡ flag b) × (r ≤ 1) ⌝ }
@@ -25,13 +23,22 @@ fn one_if(b: bool) -> u64
     if b { 1 } else { 0 }
 }
 
+// The row of a record number, counted from 0; of number 0, which is none, 0.
+fn row_place(number: u64) -> u64
+    ensures { λ r. ⌜ r ≡ number - 1 ⌝ }
+{
+    if number == 0 {
+        return 0;
+    }
+    number - 1
+}
+
 // Whether row i is held and of a second.
 fn row_within(rows: &[u32], i: u64, second: u64) -> bool
-    requires { ⌜ width * i + width ≤ length (now rows) ⌝ }
     ensures { λ r. ⌜ r ≡ rowWithin (now (rows .entry)) i second ⌝ }
 {
-    let at = WIDTH * (i as usize);
-    index_cells::is_of(rows[at + RECORDS], rows[at + SECOND], second)
+    let held = index_cells::read_cell(rows, i, RECORDS);
+    index_cells::is_of(held, index_cells::read_cell(rows, i, SECOND), second)
 }
 
 // Whether an old row, by its cells of records and second, was held and of a second of the window.
@@ -44,19 +51,18 @@ fn is_left(o: Opening, held: u32, old: u64) -> bool
 
 // The second that an old row was of is worked out anew from the rows.
 fn leave_second(o: Opening, rows: &[u32], held: u32, old: u32, seconds: &mut [u32])
-    requires { ⌜ WithinLimits o (length (now rows)) (length (now seconds)) ⌝ }
+    requires { ⌜ WithinLimits o (lent (now rows) (now seconds)) ⌝ }
     ensures { λ _. ⌜ now (seconds .exit) ≡ leave o (now (rows .entry)) held old (now (seconds .entry)) ⌝ }
 {
     let second = index_cells::wide(old);
     if is_left(o, held, second) {
-        let place = second - o.first_second;
         let cells = index_cells::second_cells(rows, second, o.highest_number);
-        index_cells::put_block(seconds, place, cells);
+        index_cells::put_block(seconds, index_open::place_of(o, second), cells);
     }
 }
 
 // A row is added to the second at a place, unless that second was worked out anew with it.
-fn join_second(anew: bool, seconds: &mut [u32], place: u64, row: [u32; 20])
+fn join_second(anew: bool, seconds: &mut [u32], place: u64, row: [u32; WIDTH])
     requires { ⌜ width * place + width ≤ length (now seconds) ⌝ }
     ensures { λ _. ⌜ now (seconds .exit) ≡ join anew (now (seconds .entry)) place row ⌝ }
 {
@@ -67,150 +73,104 @@ fn join_second(anew: bool, seconds: &mut [u32], place: u64, row: [u32; 20])
     index_cells::put_block(seconds, place, index_cells::merged_cells(cells, row));
 }
 
-// The row of a number is replaced, and the second that the old row was of is left.
-fn replace_row(o: Opening, number: u64, row: [u32; 20], rows: &mut [u32], seconds: &mut [u32])
-    requires { ⌜ WithinLimits o (length (now rows)) (length (now seconds)) × Numbered o number ⌝ }
-    ensures { λ _. ⌜ now (rows .exit) ≡ withBlock (now (rows .entry)) (number - 1) row ⌝ }
-    ensures { λ _. ⌜ now (seconds .exit) ≡ leave o (withBlock (now (rows .entry)) (number - 1) row) (cell (now (rows .entry)) (number - 1) 0) (cell (now (rows .entry)) (number - 1) 3) (now (seconds .entry)) ⌝ }
+// Row i is replaced, and the second that the old row was of is left.
+fn replace_row(o: Opening, i: u64, row: [u32; WIDTH], rows: &mut [u32], seconds: &mut [u32])
+    requires { ⌜ WithinLimits o (lent (now rows) (now seconds)) × (i < o .«highest_number») ⌝ }
+    ensures { λ _. ⌜ now (rows .exit) ≡ withBlock (now (rows .entry)) i row ⌝ }
+    ensures { λ _. ⌜ now (seconds .exit) ≡ leave o (withBlock (now (rows .entry)) i row) (cell (now (rows .entry)) i 0) (cell (now (rows .entry)) i 3) (now (seconds .entry)) ⌝ }
 {
-    let i = number - 1;
-    let at = WIDTH * (i as usize);
-    let held = rows[at + RECORDS];
-    let old = rows[at + SECOND];
+    let held = index_cells::read_cell(rows, i, RECORDS);
+    let old = index_cells::read_cell(rows, i, SECOND);
     index_cells::put_block(rows, i, row);
     leave_second(o, rows, held, old, seconds);
 }
 
-// The row of a record of a second goes in under its number.
+// Row i becomes that of a record of a second.
 fn insert_row(
     o: Opening,
-    number: u64,
+    i: u64,
     second: u64,
-    row: [u32; 20],
+    row: [u32; WIDTH],
     rows: &mut [u32],
     seconds: &mut [u32],
 )
-    requires { ⌜ WithinLimits o (length (now rows)) (length (now seconds)) × Numbered o number × Placed o second ⌝ }
-    ensures { λ _. ⌜ now (rows .exit) ≡ withBlock (now (rows .entry)) (number - 1) row ⌝ }
-    ensures { λ _. ⌜ now (seconds .exit) ≡ secondsInserted o (number - 1) second row (now (rows .entry)) (now (seconds .entry)) ⌝ }
+    requires { ⌜ WithinLimits o (lent (now rows) (now seconds)) × (i < o .«highest_number») × Placed o second ⌝ }
+    ensures { λ _. ⌜ now (rows .exit) ≡ rowInserted o i second row (lent (now (rows .entry)) (now (seconds .entry))) .rows ⌝ }
+    ensures { λ _. ⌜ now (seconds .exit) ≡ rowInserted o i second row (lent (now (rows .entry)) (now (seconds .entry))) .seconds ⌝ }
 {
-    let anew = row_within(rows, number - 1, second);
-    replace_row(o, number, row, rows, seconds);
-    let place = second - o.first_second;
+    let anew = row_within(rows, i, second);
+    replace_row(o, i, row, rows, seconds);
+    let place = index_open::place_of(o, second);
     join_second(anew, seconds, place, row);
 }
 
-// Whether a second has as many records of other numbers as make it full.
-fn is_full(o: Opening, number: u64, second: u64, rows: &[u32], seconds: &[u32]) -> bool
-    requires { ⌜ WithinLimits o (length (now rows)) (length (now seconds)) × Numbered o number × Placed o second ⌝ }
-    ensures { λ r. ⌜ r ≡ isFull o number second (now (rows .entry)) (now (seconds .entry)) ⌝ }
+// Whether a second has as many records beside row i as make it full.
+fn is_full(o: Opening, i: u64, second: u64, rows: &[u32], seconds: &[u32]) -> bool
+    ensures { λ r. ⌜ r ≡ isFull o i second (lent (now (rows .entry)) (now (seconds .entry))) ⌝ }
 {
-    let own = one_if(row_within(rows, number - 1, second));
-    let place = second - o.first_second;
-    let at = WIDTH * (place as usize);
-    index_open::full_count(o) + own <= index_cells::wide(seconds[at + RECORDS])
+    let own = one_if(row_within(rows, i, second));
+    let place = index_open::place_of(o, second);
+    let records = index_cells::read_cell(seconds, place, RECORDS);
+    index_open::full_count(o) + own <= index_cells::wide(records)
 }
 
-// The refusal of a record with this header, 15 to 18, or 0.
-fn judge_record(o: Opening, h: Header, rows: &[u32], seconds: &[u32]) -> u8
-    requires { ⌜ WithinLimits o (length (now rows)) (length (now seconds)) ⌝ }
-    ensures { λ r. ⌜ r ≡ headerRefusal o h (now (rows .entry)) (now (seconds .entry)) ⌝ }
+// The refusal of putting a record with this number and second, or 0.
+fn judge_insert(
+    o: Opening,
+    bytes: &[u8],
+    number: u64,
+    second: u64,
+    rows: &[u32],
+    seconds: &[u32],
+) -> u8
+    requires { ⌜ (number ≡ numberOf (now bytes)) × (second ≡ secondOf (now bytes)) ⌝ }
+    ensures { λ r. ⌜ r ≡ insertRefusal o (now (bytes .entry)) (lent (now (rows .entry)) (now (seconds .entry))) ⌝ }
 {
-    if index_open::other_reel(o, h) {
-        return 15;
-    }
-    let number = h.record_number;
-    if index_open::is_outside(o, number) {
-        return 16;
-    }
-    let second = h.time_tag_ms / SECOND_MS;
-    if !index_open::in_window(o, second) {
-        return 17;
-    }
-    if is_full(o, number, second, rows, seconds) {
-        return 18;
-    }
-    0
+    let full = is_full(o, row_place(number), second, rows, seconds);
+    let room = answers::check(18, full, 0);
+    let window = answers::check(17, !index_open::in_window(o, second), room);
+    let numbers = answers::check(16, index_open::is_outside(o, number), window);
+    let reel = answers::check(15, index_open::other_reel(o, bytes), numbers);
+    let limits = answers::first_refusal(index_open::opening_refusal(o, rows, seconds), reel);
+    answers::first_refusal(record::refusal_of(bytes), limits)
 }
 
-// The refusal of putting a record, or 0.
-fn judge_insert(o: Opening, bytes: &[u8], rows: &[u32], seconds: &[u32]) -> u8
-    ensures { λ r. ⌜ r ≡ insertRefusal o (now (bytes .entry)) (now (rows .entry)) (now (seconds .entry)) ⌝ }
-{
-    let limits = index_open::opening_refusal(o, rows.len(), seconds.len());
-    let n = answers::first_refusal(record::refusal_of(bytes), limits);
-    if n != 0 {
-        return n;
-    }
-    judge_record(o, header::read_fields(bytes), rows, seconds)
-}
-
-// A record is put under its number, in place of any there.
+// A record is put under its number, in place of any there. It is judged once, and its row made only then.
 pub fn insert(o: Opening, bytes: &[u8], rows: &mut [u32], seconds: &mut [u32]) -> u8
-    ensures { λ r. ⌜ r ≡ insertRefusal o (now (bytes .entry)) (now (rows .entry)) (now (seconds .entry)) ⌝ }
-    ensures { λ r. ⌜ now (rows .exit) ≡ insertRows o (now (bytes .entry)) (now (rows .entry)) (now (seconds .entry)) ⌝ }
-    ensures { λ r. ⌜ now (seconds .exit) ≡ insertSeconds o (now (bytes .entry)) (now (rows .entry)) (now (seconds .entry)) ⌝ }
+    ensures { λ r. ⌜ r ≡ insertRefusal o (now (bytes .entry)) (lent (now (rows .entry)) (now (seconds .entry))) ⌝ }
+    ensures { λ r. ⌜ now (rows .exit) ≡ inserted o (now (bytes .entry)) (lent (now (rows .entry)) (now (seconds .entry))) .rows ⌝ }
+    ensures { λ r. ⌜ now (seconds .exit) ≡ inserted o (now (bytes .entry)) (lent (now (rows .entry)) (now (seconds .entry))) .seconds ⌝ }
 {
-    let n = judge_insert(o, bytes, rows, seconds);
+    let number = fields::read_field(bytes, header::RECORD_NUMBER);
+    let second = index_row::second_of(bytes);
+    let n = judge_insert(o, bytes, number, second, rows, seconds);
     if n == 0 {
-        let h = header::read_fields(bytes);
         let row = index_row::row_of(bytes);
-        insert_row(
-            o,
-            h.record_number,
-            h.time_tag_ms / SECOND_MS,
-            row,
-            rows,
-            seconds,
-        );
+        insert_row(o, row_place(number), second, row, rows, seconds);
         return 0;
     }
     n
 }
 
-// Whether row i is not held.
-fn is_free(rows: &[u32], i: u64) -> bool
-    requires { ⌜ width * i + width ≤ length (now rows) ⌝ }
-    ensures { λ r. ⌜ r ≡ eqb (cell (now (rows .entry)) i 0) 0 ⌝ }
-{
-    let at = WIDTH * (i as usize);
-    rows[at + RECORDS] == 0
-}
-
-// The refusal of a number to be taken out, 16 or 19, or 0.
-fn judge_number(o: Opening, number: u64, rows: &[u32]) -> u8
-    requires { ⌜ width * o .«highest_number» ≤ length (now rows) ⌝ }
-    ensures { λ r. ⌜ r ≡ numberRefusal o number (now (rows .entry)) ⌝ }
-{
-    if index_open::is_outside(o, number) {
-        return 16;
-    }
-    if is_free(rows, number - 1) {
-        return 19;
-    }
-    0
-}
-
 // The refusal of taking out a number, or 0.
 fn judge_remove(o: Opening, number: u64, rows: &[u32], seconds: &[u32]) -> u8
-    ensures { λ r. ⌜ r ≡ removeRefusal o number (now (rows .entry)) (now (seconds .entry)) ⌝ }
+    ensures { λ r. ⌜ r ≡ removeRefusal o number (lent (now (rows .entry)) (now (seconds .entry))) ⌝ }
 {
-    let n = index_open::opening_refusal(o, rows.len(), seconds.len());
-    if n != 0 {
-        return n;
-    }
-    judge_number(o, number, rows)
+    let records = index_cells::read_cell(rows, row_place(number), RECORDS);
+    let held = answers::check(19, records == 0, 0);
+    let numbers = answers::check(16, index_open::is_outside(o, number), held);
+    answers::first_refusal(index_open::opening_refusal(o, rows, seconds), numbers)
 }
 
 // The record of a number is taken out; its row becomes 0.
 pub fn remove(o: Opening, number: u64, rows: &mut [u32], seconds: &mut [u32]) -> u8
-    ensures { λ r. ⌜ r ≡ removeRefusal o number (now (rows .entry)) (now (seconds .entry)) ⌝ }
-    ensures { λ r. ⌜ now (rows .exit) ≡ removeRows o number (now (rows .entry)) (now (seconds .entry)) ⌝ }
-    ensures { λ r. ⌜ now (seconds .exit) ≡ removeSeconds o number (now (rows .entry)) (now (seconds .entry)) ⌝ }
+    ensures { λ r. ⌜ r ≡ removeRefusal o number (lent (now (rows .entry)) (now (seconds .entry))) ⌝ }
+    ensures { λ r. ⌜ now (rows .exit) ≡ removed o number (lent (now (rows .entry)) (now (seconds .entry))) .rows ⌝ }
+    ensures { λ r. ⌜ now (seconds .exit) ≡ removed o number (lent (now (rows .entry)) (now (seconds .entry))) .seconds ⌝ }
 {
     let n = judge_remove(o, number, rows, seconds);
     if n == 0 {
-        replace_row(o, number, [0u32; 20], rows, seconds);
+        replace_row(o, row_place(number), [0u32; WIDTH], rows, seconds);
         return 0;
     }
     n

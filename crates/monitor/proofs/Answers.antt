@@ -1,4 +1,4 @@
--- The answer of a segment question by what the checks and the status bits are. Assumes nothing.
+-- The answer for a segment by what the checks and the status bits are. Assumes nothing.
 use Prim.Native.Nat.{ℕ, _<_}
 use mathlib.Core.Path.{_≡_, ap, sym, _∙_}
 use mathlib.Core.Bool.{Bool, true, false, cond, not, _&&_}
@@ -9,7 +9,7 @@ use Rattle.answers.specs.Answer.{Answer, accepted, refused, unless}
 use Rattle.answers.specs.Refusal.{_when_, first, _then_}
 use Rattle.record.specs.Record.{recordRefusal}
 use Rattle.answers.proofs.Refusals.{then-some, unless-some}
-use Rattle.monitor.specs.Segments.{isNoRow}
+use Rattle.monitor.specs.Segments.{segmentCount, isNoRow}
 use Rattle.monitor.specs.Monitor.{isNew, segmentBytes, rowAnswer}
 
 -- the first refusal stands, whatever follows
@@ -34,17 +34,18 @@ module _ (this earlier : List ℕ) (row : ℕ) where
         ∙ sym (λ i. answerBy (p i) (recordRefusal earlier) (isNoRow row) (isNew this row) (isNew earlier row))
 
     module _ (q : recordRefusal earlier ≡ 0) where
-      pub no-segment : row ≡ 7 → refused [] 20 ≡ rowAnswer this earlier row
-      no-segment e = sym (λ i. answerBy (p i) (q i) (eq-eqb row 7 e i) (isNew this row) (isNew earlier row))
+      pub no-segment : row ≡ segmentCount → refused [] 20 ≡ rowAnswer this earlier row
+      no-segment e = sym (λ i. answerBy (p i) (q i) (eq-eqb row segmentCount e i) (isNew this row) (isNew earlier row))
 
-      module _ (h : row < 7) where
+      module _ (h : row < segmentCount) where
         is-row : isNoRow row ≡ false
-        is-row = ne-eqb row 7 (λ e. omega arith)
+        is-row = ne-eqb row segmentCount (λ e. omega arith)
 
         pub new-in-this : isNew this row ≡ true → accepted (segmentBytes this row) ≡ rowAnswer this earlier row
         new-in-this new = sym (λ i. answerBy (p i) (q i) (is-row i) (new i) (isNew earlier row))
 
-        pub new-in-earlier : isNew this row ≡ false → isNew earlier row ≡ true → accepted (segmentBytes earlier row) ≡ rowAnswer this earlier row
+        pub new-in-earlier : isNew this row ≡ false → isNew earlier row ≡ true
+            → accepted (segmentBytes earlier row) ≡ rowAnswer this earlier row
         new-in-earlier new old = sym (λ i. answerBy (p i) (q i) (is-row i) (new i) (old i))
 
         pub new-in-neither : isNew this row ≡ false → isNew earlier row ≡ false → refused [] 23 ≡ rowAnswer this earlier row

@@ -1,5 +1,5 @@
--- `segment` bears no number; `segment_refusal`, asked the same, does. The two are one answer: there are bytes exactly where nothing is
--- refused, and never more than 90 of them. Assumes nothing.
+-- `segment` bears no number; `segment_refusal`, asked the same, does. The two are one answer: there are bytes exactly where
+-- nothing is refused, and never more than 90 of them. Assumes nothing.
 use Prim.Native.Nat.{ℕ, _*_, _≤_, _<_}
 use mathlib.Core.Path.{_≡_, refl}
 use mathlib.Core.Bool.{Bool, true, false, cond, not, _&&_}
@@ -14,17 +14,17 @@ use Rattle.answers.specs.Answer.{Answer, accepted, refused}
 use Rattle.record.specs.Record.{recordRefusal}
 use Rattle.answers.specs.Refusal.{_when_, first, _then_}
 use Rattle.answers.proofs.Refusals.{then-zero, none-applies}
-use Rattle.monitor.specs.Segments.{segmentRow, isNoRow, segmentAt, wordCount, mostWords}
+use Rattle.monitor.specs.Segments.{segmentCount, segmentRow, isNoRow, segmentAt, wordCount, mostWords}
 use Rattle.monitor.specs.Monitor.{isNew, segmentBytes, rowRefusal, segmentAnswer}
 use Rattle.monitor.proofs.Segments.{sound-words, row-most}
 use Rattle.monitor.proofs.Monitor.{last-sample-word-facts}
 
 -- ## the length of a segment
 
-words-few : (row : ℕ) → row < 7 → wordCount (segmentAt row) ≤ mostWords
+words-few : (row : ℕ) → row < segmentCount → wordCount (segmentAt row) ≤ mostWords
 words-few row h = sound-words row h .few
 
-module _ (b : List ℕ) (row : ℕ) (inside : row < 7) where
+module _ (b : List ℕ) (row : ℕ) (inside : row < segmentCount) where
   bytes-few : length (segmentBytes b row) ≤ 2 * mostWords
   unfolding segmentBytes
   bytes-few = simp length-take (omega (arith, words-few row inside))
@@ -50,16 +50,16 @@ module _ (this earlier : List ℕ) (number : ℕ) where
 
   -- where there is none, both records are accepted and the number is a segment's
   module _ (none : refusal ≡ 0) where
-    records : (recordRefusal this ≡ 0) × (recordRefusal earlier ≡ 0) × (row < 7)
+    records : (recordRefusal this ≡ 0) × (recordRefusal earlier ≡ 0) × (row < segmentCount)
     records =
         let rest = first (20 when isNoRow row ∷ 23 when (not (isNew this row) && not (isNew earlier row)) ∷ []) in
         let p = then-zero (recordRefusal this) (recordRefusal earlier then rest) none in
         let q = then-zero (recordRefusal earlier) rest (p .1) in
         let known = none-applies (20 when isNoRow row ∷ 23 when (not (isNew this row) && not (isNew earlier row)) ∷ []) 0 tt (q .1) in
-        (p .0, q .0, below (row-most number) (eqb-false row 7 known))
+        (p .0, q .0, below (row-most number) (eqb-false row segmentCount known))
       where
-        below : {n : ℕ} → n ≤ 7 → (n ≡ 7 → ⊥) → n < 7
-        below {n} h k = ⊎-elim (λ p. absurd (k (omega (arith, p, h)))) (λ p. p) (le-or-lt 7 n)
+        below : {n : ℕ} → n ≤ segmentCount → (n ≡ segmentCount → ⊥) → n < segmentCount
+        below {n} h k = ⊎-elim (λ p. absurd (k (omega (arith, p, h)))) (λ p. p) (le-or-lt segmentCount n)
 
     by-new : (t : Bool) → 0 < length (cond t (segmentBytes this row) (segmentBytes earlier row))
     by-new true = bytes-some this row (records .2) (records .0)

@@ -6,16 +6,19 @@ use native.Mathlib.Omega.{arith}
 use lib.Dec.{eqb}
 use lib.ListN.{length, take, drop}
 use Rattle.bits.specs.Bits.{getBits}
+use Rattle.header.specs.Format.{headerBytes}
+use Rattle.sample_rates.specs.Rates.{mostSamples}
 use Rattle.record.specs.Record.{recordRefusal}
 use Rattle.record.proofs.Accepted.{record-facts, stretch-inside}
 use Rattle.record.specs.Stretch.{recordRate}
 use Rattle.monitor.specs.declared.SegmentWords.{SegmentWords}
-use Rattle.monitor.specs.Segments.{firstWord, wordCount, segmentAt}
+use Rattle.monitor.specs.Segments.{monitorWords, firstWord, wordCount, segmentAt}
 use Rattle.monitor.specs.Monitor.{lastSampleWordOf, isNew, segmentBytes}
 use Rattle.monitor.specs.Shown.{part}
 
--- N is small, and the 150 monitor words after it lie within the record
-pub last-sample-word-facts : (b : List ℕ) → recordRefusal b ≡ 0 → (lastSampleWordOf b ≤ 2040) × (2 * lastSampleWordOf b + 300 ≤ length b)
+-- N is small, and the monitor words after it lie within the record
+pub last-sample-word-facts : (b : List ℕ) → recordRefusal b ≡ 0
+    → (2 * lastSampleWordOf b ≤ headerBytes + 4 * mostSamples) × (2 * (lastSampleWordOf b + monitorWords) ≤ length b)
 unfolding lastSampleWordOf recordRate
 last-sample-word-facts b e =
     let l = record-facts b e .line in

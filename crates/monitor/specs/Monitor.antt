@@ -1,5 +1,4 @@
--- The monitor words of a record, and the segment question. 01: "Monitor words after N" and "A segment question takes two
--- records, this and an earlier one".
+-- The monitor words of a record, and the segment that is asked for with two records. FORMAT, "Monitor segments".
 use Prim.Native.Nat.{ℕ, _+_, _-_, _*_}
 use mathlib.Core.Bool.{Bool, cond, not, _&&_}
 use mathlib.Core.List.{List, [], _∷_}

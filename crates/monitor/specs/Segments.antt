@@ -1,4 +1,4 @@
--- The seven segments of the power monitor, as one table, and its rule. 01: "Monitor words after N".
+-- The seven segments of the power monitor, as one table, and its rule. FORMAT, "Monitor segments".
 use Prim.Native.Nat.{ℕ, _+_, _-_, _≤_}
 use mathlib.Core.Bool.{Bool, true, cond, _&&_}
 use mathlib.Core.List.{List, [], _∷_}
@@ -23,6 +23,9 @@ segments =
     (words 109 to 128 segment 4) ∷
     (words 129 to 148 segment 8) ∷
     []
+
+abbrev pub segmentCount : ℕ
+segmentCount = length segments
 
 -- what stands past the end of the table
 abbrev pub noSegment : SegmentWords
@@ -51,27 +54,31 @@ segmentRow number = rowIn segments number
 
 -- past the last row: no row has the number
 abbrev pub isNoRow : ℕ → Bool
-isNoRow row = eqb row (length segments)
+isNoRow row = eqb row segmentCount
 
 abbrev pub segmentAt : ℕ → SegmentWords
 segmentAt row = getD segments row noSegment
+
+-- the monitor words after N
+abbrev pub monitorWords : ℕ
+monitorWords = 150
 
 -- no segment has more words
 abbrev pub mostWords : ℕ
 mostWords = 45
 
--- the words of a row are among the 150, and few
+-- the words of a row are among the monitor words, and few
 pub record SoundWords (s : SegmentWords) : Type 0 where
   pub some : 1 ≤ firstWord s
   pub order : firstWord s ≤ lastWord s
-  pub end : lastWord s ≤ 150
+  pub end : lastWord s ≤ monitorWords
   pub few : wordCount s ≤ mostWords
 
--- the one test of the table: each segment starts after the last word of the row before, has a word but no more than 45, and ends by
--- word 150
+-- the one test of the table: each segment starts after the last word of the row before, has a word but no more than the most, and
+-- ends by the last monitor word
 abbrev pub wordTests : ℕ → SegmentWords → List Bool
 wordTests before s =
-    ltb before (firstWord s) ∷ leb (firstWord s) (lastWord s) ∷ leb (lastWord s) 150 ∷ leb (wordCount s) mostWords ∷ []
+    ltb before (firstWord s) ∷ leb (firstWord s) (lastWord s) ∷ leb (lastWord s) monitorWords ∷ leb (wordCount s) mostWords ∷ []
 
 abbrev pub soundAfter : ℕ → List SegmentWords → Bool
 soundAfter before [] = true

@@ -1,4 +1,4 @@
--- What the code's stretches and places stand for: the bytes, and for each place the number and the bytes of 01.
+-- What the code's stretches and places stand for: the bytes, and for each place the answer. FORMAT, "Monitor segments".
 use Prim.Native.Nat.{ℕ, _-_, _≤_}
 use mathlib.Core.Path.{_≡_}
 use mathlib.Core.List.{List, []}

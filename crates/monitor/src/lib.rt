@@ -1,10 +1,11 @@
-// The segments of the power monitor, and which of two records has new data of one. 01: "Monitor words after N" and "A
-// segment question takes two records, this and an earlier one".
+// The segments of the power monitor, and which of two records has new data of one. FORMAT, "Monitor segments", "Refusal numbers".
 ghost use mathlib.Core.Path.{_≡_};
 ghost use Prim.Native.Nat.{_+_, _*_, _≤_, _<_};
 ghost use lib.ListN.{length};
+ghost use Rattle.header.specs.Format.{headerBytes};
+ghost use Rattle.sample_rates.specs.Rates.{mostSamples};
 ghost use Rattle.record.specs.Record.{recordRefusal};
-ghost use Rattle.monitor.specs.Segments.{segmentRow, segmentAt, SoundWords};
+ghost use Rattle.monitor.specs.Segments.{segmentCount, monitorWords, segmentRow, segmentAt, SoundWords};
 ghost use Rattle.monitor.specs.Monitor.{lastSampleWordOf, rowAnswer, segmentAnswer};
 ghost use Rattle.monitor.specs.Shown.{StretchOf, shownPlace, Inside};
 
@@ -14,7 +15,7 @@ struct SegmentWords(u64, usize, usize);
 const SEGMENT_COUNT: usize = 7;
 
 // In the order of the status bits.
-const SEGMENTS: [SegmentWords; 7] = [
+const SEGMENTS: [SegmentWords; SEGMENT_COUNT] = [
     SegmentWords(7, 6, 50),
     SegmentWords(5, 51, 63),
     SegmentWords(2, 64, 78),
@@ -38,9 +39,9 @@ enum Place {
     Refused(u8),
 }
 
-// A row of the table; its words are among the 150.
+// A row of the table; its words are among the monitor words.
 fn words_of(row: usize) -> SegmentWords
-    requires { ⌜ row < 7 ⌝ }
+    requires { ⌜ row < segmentCount ⌝ }
     ensures { λ r. ⌜ (r ≡ segmentAt row) × SoundWords r ⌝ }
 {
     SEGMENTS[row]
@@ -48,7 +49,7 @@ fn words_of(row: usize) -> SegmentWords
 
 // The table's row, from 0, of a segment's number, or the count of rows where none has it.
 fn segment_row(number: u64) -> usize
-    ensures { λ r. ⌜ (r ≡ segmentRow number) × (r ≤ 7) ⌝ }
+    ensures { λ r. ⌜ (r ≡ segmentRow number) × (r ≤ segmentCount) ⌝ }
 {
     let mut row: usize = 0;
     while row < SEGMENT_COUNT {
@@ -61,19 +62,18 @@ fn segment_row(number: u64) -> usize
     row
 }
 
-// The last word of the samples of an accepted record; the 150 monitor words after it lie in the record.
+// The last word of the samples of an accepted record; the monitor words after it lie in the record.
 fn last_sample_word(bytes: &[u8]) -> usize
     requires { ⌜ recordRefusal (now bytes) ≡ 0 ⌝ }
-    ensures { λ r. ⌜ (r ≡ lastSampleWordOf (now (bytes .entry))) × (r ≤ 2040) × (2 * r + 300 ≤ length (now (bytes .entry))) ⌝ }
+    ensures { λ r. ⌜ (r ≡ lastSampleWordOf (now (bytes .entry))) × (2 * r ≤ headerBytes + 4 * mostSamples) × (2 * (r + monitorWords) ≤ length (now (bytes .entry))) ⌝ }
 {
-    let h = header::read_fields(bytes);
-    let rate = sample_rates::sample_rate_of(h.sample_rate_hz);
+    let rate = record::rate_of(bytes);
     rate.last_word as usize
 }
 
 // The segment of a row in an accepted record. The first word after the samples is the status, whose bit 1 is row 0's.
 fn stretch_in(bytes: &[u8], row: usize) -> Stretch
-    requires { ⌜ (recordRefusal (now bytes) ≡ 0) × (row < 7) ⌝ }
+    requires { ⌜ (recordRefusal (now bytes) ≡ 0) × (row < segmentCount) ⌝ }
     ensures { λ r. ⌜ StretchOf (now (bytes .entry)) row r ⌝ }
 {
     let last_word = last_sample_word(bytes);
@@ -87,7 +87,7 @@ fn stretch_in(bytes: &[u8], row: usize) -> Stretch
 
 // The segment of a row, from this record if it is new there, else from the earlier one; both are accepted.
 fn choose_record(this: &[u8], earlier: &[u8], row: usize) -> Place
-    requires { ⌜ (recordRefusal (now this) ≡ 0) × (recordRefusal (now earlier) ≡ 0) × (row < 7) ⌝ }
+    requires { ⌜ (recordRefusal (now this) ≡ 0) × (recordRefusal (now earlier) ≡ 0) × (row < segmentCount) ⌝ }
     ensures { λ r. ⌜ shownPlace r (now (this .entry)) (now (earlier .entry)) ≡ rowAnswer (now (this .entry)) (now (earlier .entry)) row ⌝ }
     ensures { λ r. ⌜ Inside r (now (this .entry)) (now (earlier .entry)) ⌝ }
 {

@@ -1,7 +1,8 @@
+pub mod Stretch
 pub mod Judged
-pub mod Part
+mod Part
 pub mod FirstBytes
-pub mod NewStretch
+mod NewStretch
 mod Trips
 pub mod RoundTrip
 pub mod Bytes

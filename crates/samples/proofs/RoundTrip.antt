@@ -1,16 +1,16 @@
--- Samples out and in again, and in and out again. 01: "Samples go out to four lent channel buffers of signed bytes and come back
--- in". The claims are about the definitions that `read_samples` and `write_samples` promise. Assumes nothing.
+-- Samples out and in again, and in and out again. FORMAT, "Samples". The claims are about the definitions that `read_samples` and
+-- `write_samples` promise. Assumes nothing.
 use Prim.Native.Nat.{ℕ, _≤_, _<_}
 use mathlib.Core.Path.{_≡_, _∙_}
 use mathlib.Core.List.{List, _++_}
 use lib.IntN.{ℤ, pos}
 use lib.ListN.{length, getD, take, drop}
 use lib.Signed.{mag}
-use Rattle.header.specs.Header.{headerOf}
+use Rattle.header.specs.Format.{headerBytes}
 use Rattle.channels.specs.Sample.{channelOf}
 use Rattle.record.specs.Stretch.{sampleCount}
 use Rattle.samples.specs.InOut.{samplesRefusal, channelAfter, recordAfter}
-use Rattle.samples.proofs.Trips.{back, written-header, written-refusal, written-samples}
+use Rattle.samples.proofs.Trips.{back, written-first, written-refusal, written-samples}
 
 -- what both functions answer for the record b and four buffers
 abbrev pub refusalFor : List ℕ → List ℤ → List ℤ → List ℤ → List ℤ → ℕ
@@ -33,9 +33,9 @@ module _ (b : List ℕ) (one two three four : List ℤ) where
 
   -- IN THEN OUT: where the samples of the four channels go in,
   module _ (accepted : refusalFor b one two three four ≡ 0) where
-    -- the record has the same header,
-    pub header-kept : headerOf (samplesIn b one two three four) ≡ headerOf b
-    header-kept = written-header b one two three four accepted
+    -- the record keeps every byte of its header,
+    pub header-kept : take headerBytes (samplesIn b one two three four) ≡ take headerBytes b
+    header-kept = written-first b one two three four accepted
 
     -- is judged as before, with any four buffers,
     pub refusal-kept : (w x y z : List ℤ) → refusalFor (samplesIn b one two three four) w x y z ≡ refusalFor b w x y z

@@ -9,7 +9,7 @@ use lib.ListN.{length, getD, take, drop}
 use lib.Signed.{mag}
 use Rattle.lists.specs.Fill.{over}
 use Rattle.lists.proofs.Fill.{length-tab}
-use Rattle.header.specs.Header.{headerOf}
+use Rattle.header.specs.Format.{headerBytes}
 use Rattle.channels.specs.Sample.{sampleOf, channelOf, interleavedByte, interleaved}
 use Rattle.channels.proofs.OutThenIn.{buffers-in}
 use Rattle.channels.proofs.InThenOut.{buffer-out}
@@ -18,11 +18,13 @@ use Rattle.record.specs.Record.{recordRefusal}
 use Rattle.record.specs.Stretch.{sampleCount, stretchOf, withStretch}
 use Rattle.samples.specs.InOut.{fewer, samplesRefusal, channelAfter, recordAfter}
 use Rattle.samples.proofs.Judged.{Room, room}
-use Rattle.samples.proofs.Part.{none-or-some, record-kept, buffer-by, record-by, buffer-length}
-use Rattle.samples.proofs.NewStretch.{length-stretch, stretch-bytes, same-stretch, new-header, new-refusal, new-count, new-stretch}
+use Rattle.samples.proofs.Stretch.{none-or-some, length-stretch, stretch-bytes, same-stretch}
+use Rattle.samples.proofs.Part.{record-kept, buffer-by, record-by, buffer-length}
+use Rattle.samples.proofs.NewStretch.{new-first, new-refusal, new-count, new-stretch}
 
 -- what holds of each of four lists holds of channel c of them
-each-channel : (P : List ℤ → Type 0) (one two three four : List ℤ) → P one → P two → P three → P four → (c : ℕ) → 1 ≤ c → c ≤ 4 → P (channelOf one two three four c)
+each-channel : (P : List ℤ → Type 0) (one two three four : List ℤ) → P one → P two → P three → P four → (c : ℕ) → 1 ≤ c → c ≤ 4
+    → P (channelOf one two three four c)
 unfolding channelOf
 each-channel P one two three four p q r s zero l h = absurd (let z : ⊥ = omega arith in z)
 each-channel P one two three four p q r s (suc zero) l h = p
@@ -43,9 +45,6 @@ module _ (b : List ℕ) (one two three four : List ℤ) where
   enough : refusal ≡ 0 → Room b (length one) (length two) (length three) (length four)
   enough z = room b (length one) (length two) (length three) (length four) refl z
 
-  within : refusal ≡ 0 → 80 + 4 * sampleCount b ≤ length b
-  within z = omega (arith, enough z .inside)
-
   -- the way in is judged as the way out was
   pub refusal-again : samplesRefusal b (length (out 1 one)) (length (out 2 two)) (length (out 3 three)) (length (out 4 four)) ≡ refusal
   refusal-again =
@@ -58,7 +57,7 @@ module _ (b : List ℕ) (one two three four : List ℤ) where
   module _ (bytes : (i : ℕ) → getD b i 0 < 256) where
     no-refusal : refusal ≡ 0 → recordAfter refusal b (out 1 one) (out 2 two) (out 3 three) (out 4 four) ≡ b
     no-refusal z =
-        let inside = within z in
+        let inside = enough z .inside in
         record-by refusal b z (out 1 one) (out 2 two) (out 3 three) (out 4 four)
         ∙ (λ i. withStretch b (interleaved (sampleCount b) (buffer-by refusal b z 1 one i) (buffer-by refusal b z 2 two i) (buffer-by refusal b z 3 three i) (buffer-by refusal b z 4 four i)))
         ∙ ap (withStretch b) (buffers-in (stretchOf b) (sampleCount b) (length-stretch b inside) (stretch-bytes b inside bytes) one two three four)
@@ -82,14 +81,14 @@ module _ (b : List ℕ) (one two three four : List ℤ) where
   stretch-length = length-tab (interleavedByte one two three four) 0 (4 * sampleCount b)
 
   module _ (none : refusal ≡ 0) where
-    inside : 80 + 4 * sampleCount b ≤ length b
-    inside = within none
+    inside : headerBytes + 4 * sampleCount b ≤ length b
+    inside = enough none .inside
 
     is-written : written ≡ withStretch b stretch
     is-written = record-by refusal b none one two three four
 
-    pub written-header : headerOf written ≡ headerOf b
-    written-header = ap headerOf is-written ∙ new-header b inside stretch stretch-length
+    pub written-first : take headerBytes written ≡ take headerBytes b
+    written-first = ap (take headerBytes) is-written ∙ new-first b inside stretch stretch-length
 
     pub written-refusal : (w x y z : ℕ) → samplesRefusal written w x y z ≡ samplesRefusal b w x y z
     unfolding samplesRefusal
@@ -105,7 +104,8 @@ module _ (b : List ℕ) (one two three four : List ℤ) where
         each-channel (λ (x : List ℤ). sampleCount b ≤ length x) one two three four (r .first) (r .second) (r .third) (r .fourth) c l h
 
     pub written-samples : (c : ℕ) → 1 ≤ c → c ≤ 4 → ((k : ℕ) → mag (getD (channelOf one two three four c) k (pos 0)) < 128)
-        → (r : ℕ) (buffer : List ℤ) → r ≡ 0 → channelAfter r written c buffer ≡ take (sampleCount b) (channelOf one two three four c) ++ drop (sampleCount b) buffer
+        → (r : ℕ) (buffer : List ℤ) → r ≡ 0
+        → channelAfter r written c buffer ≡ take (sampleCount b) (channelOf one two three four c) ++ drop (sampleCount b) buffer
     written-samples c l h f r buffer z =
         let n = ap sampleCount is-written ∙ new-count b inside stretch stretch-length in
         let s = ap stretchOf is-written ∙ new-stretch b inside stretch stretch-length in

@@ -1,5 +1,4 @@
--- Samples out to four channel buffers and back in. 01: "Samples go out to four lent channel buffers of signed bytes and come
--- back in. ... Places past the sample count ... keep their contents", and refusal 12.
+-- Samples out to four channel buffers and back in. FORMAT, "Samples", "Refusal numbers" (12).
 use Prim.Native.Nat.{ℕ}
 use mathlib.Core.Bool.{Bool, cond, _||_}
 use mathlib.Core.List.{List, [], _∷_}
@@ -7,8 +6,8 @@ use lib.Dec.{eqb, ltb}
 use lib.IntN.{ℤ}
 use Rattle.lists.specs.Fill.{over}
 use Rattle.channels.specs.Sample.{sampleOf, interleaved}
-use Rattle.record.specs.Record.{recordRefusal}
 use Rattle.answers.specs.Refusal.{_when_, first, _then_}
+use Rattle.record.specs.Record.{recordRefusal}
 use Rattle.record.specs.Stretch.{sampleCount, stretchOf, withStretch}
 
 -- one of four buffers of these lengths holds fewer than n samples

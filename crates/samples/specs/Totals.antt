@@ -1,4 +1,4 @@
--- The totals of a record's samples, for each channel. 01: "for each channel sum, sum of squares, least and greatest over all samples".
+-- The totals of a record's samples, for each channel. FORMAT, "Samples".
 use mathlib.Core.List.{List, [], _∷_}
 use Prim.Native.Nat.{ℕ}
 use Rattle.answers.specs.Answer.{Answer, told, unless}

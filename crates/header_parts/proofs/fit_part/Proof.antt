@@ -13,26 +13,26 @@ returns c =
     let c2 = c3 .before .before in
     let c1 = c2 .before .before in
     λ i.
-    c1 .fits-binary .ensures i
-    && (c2 .fits-binary2 .ensures i
-    && (c3 .fits-binary3 .ensures i
-    && (c4 .fits-binary4 .ensures i
-    && (c5 .fits-binary5 .ensures i
-    && (c6 .fits-binary6 .ensures i
-    && (c7 .fits-binary7 .ensures i
-    && (c .fits-binary8 .ensures i
-    && c1 .before .before .args .rest)))))))
+    c1 .fit-row .ensures i
+    && (c2 .fit-row2 .ensures i
+    && (c3 .fit-row3 .ensures i
+    && (c4 .fit-row4 .ensures i
+    && (c5 .fit-row5 .ensures i
+    && (c6 .fit-row6 .ensures i
+    && (c7 .fit-row7 .ensures i
+    && (c .fit-row8 .ensures i
+    && c1 .before .before .before .args .rest)))))))
 
 pub fit-part-spec : {M : Type 1} → statement M
 fit-part-spec =
     tie.close
     (tie.spec
-    (λ c. search needs) (λ c. search needs) (λ c κs. search needs)
-    (λ c. search needs) (λ c. search needs) (λ c κs. search needs)
-    (λ c. search needs) (λ c. search needs) (λ c κs. search needs)
-    (λ c. search needs) (λ c. search needs) (λ c κs. search needs)
-    (λ c. search needs) (λ c. search needs) (λ c κs. search needs)
-    (λ c. search needs) (λ c. search needs) (λ c κs. search needs)
-    (λ c. search needs) (λ c. search needs) (λ c κs. search needs)
-    (λ c. search needs) (λ c. search needs) (λ c κs. search needs)
+    (λ c. search needs) (λ c κs. search needs)
+    (λ c. search needs) (λ c κs. search needs)
+    (λ c. search needs) (λ c κs. search needs)
+    (λ c. search needs) (λ c κs. search needs)
+    (λ c. search needs) (λ c κs. search needs)
+    (λ c. search needs) (λ c κs. search needs)
+    (λ c. search needs) (λ c κs. search needs)
+    (λ c. search needs) (λ c κs. search needs)
     returns)

@@ -1,41 +1,18 @@
--- The pattern first, then the limits and the lengths. Assumes nothing.
 use mathlib.Core.Path.{_∙_}
-use mathlib.Core.List.{[], _∷_}
-use Rattle.answers.specs.Refusal.{_when_, first, _then_}
+use mathlib.Core.Bool.{cond}
+use Rattle.answers.specs.Refusal.{_then_}
 use borrow.Author.Needs.{needs}
 use Rattle.index_open.proofs.judge.Statement.{statement}
 use Rattle.index_open.proofs.judge.Tie as tie
 
-limits-wrong-requires : tie.Need-limits-wrong-requires
-limits-wrong-requires c κs = search needs
-
-too-small-requires : tie.Need-too-small-requires
-too-small-requires c κs = search needs
-
-limits-refusal-requires : tie.Need-limits-refusal-requires
-limits-refusal-requires c κs = search needs
-
-refusal-of-requires : tie.Need-refusal-of-requires
-refusal-of-requires c κs = search needs
-
-first-refusal-requires : tie.Need-first-refusal-requires
-first-refusal-requires c κs = search needs
-
 returns : tie.Need-returns
 returns c =
-    let a = c .before in
-    let r = a .before in
-    let s = r .before in
-    let limits = r .limits-refusal .ensures ∙ (λ i. first (13 when s .before .limits-wrong .ensures i ∷ 14 when s .too-small .ensures i ∷ [])) in
-    c .first-refusal .ensures ∙ (λ i. a .refusal-of .ensures i then limits i)
+    let pattern = c .before in
+    let limits = pattern .before in
+    let small = limits .before .before in
+    let smalls = small .check .ensures ∙ (λ u. cond (small .before .too-small .ensures u) 14 0) in
+    let wrongs = limits .check2 .ensures ∙ (λ u. cond (limits .before .limits-wrong .ensures u) 13 (smalls u)) in
+    c .first-refusal .ensures ∙ (λ i. pattern .refusal-of .ensures i then wrongs i)
 
 pub judge-spec : {M : Type 1} → statement M
-judge-spec =
-    tie.close
-    (tie.spec
-    limits-wrong-requires
-    too-small-requires
-    limits-refusal-requires
-    refusal-of-requires
-    first-refusal-requires
-    returns)
+judge-spec = tie.close (tie.spec (λ c κs. search needs) (λ c κs. search needs) (λ c κs. search needs) (λ c κs. search needs) (λ c κs. search needs) (λ c κs. search needs) returns)

@@ -1,39 +1,17 @@
--- Each test is its definition's. Assumes nothing.
 use mathlib.Core.Path.{_∙_}
-use mathlib.Core.Bool.{_||_}
-use mathlib.Core.List.{[], _∷_}
-use Rattle.answers.specs.Refusal.{_when_, first}
+use mathlib.Core.Bool.{_||_, cond}
 use Rattle.index_model.specs.Opening.{openingRefusal}
 use borrow.Author.Needs.{needs}
 use Rattle.index_open.proofs.opening_refusal.Statement.{statement}
 use Rattle.index_open.proofs.opening_refusal.Tie as tie
 
-limits-wrong-requires : tie.Need-limits-wrong-requires
-limits-wrong-requires c κs = search needs
-
-held-wrong-requires : tie.Need-held-wrong-requires
-held-wrong-requires c κs = search needs
-
-too-small-requires : tie.Need-too-small-requires
-too-small-requires c κs = search needs
-
-limits-refusal-requires : tie.Need-limits-refusal-requires
-limits-refusal-requires c κs = search needs
-
 returns : tie.Need-returns
 unfolding openingRefusal
 returns c =
-    let s = c .before in
-    let h = s .before in
-    c .limits-refusal .ensures
-    ∙ (λ i. first (13 when (h .before .limits-wrong .ensures i || h .held-wrong .ensures i) ∷ 14 when s .too-small .ensures i ∷ []))
+    let small = c .before in
+    let held = small .before .before in
+    c .check2 .ensures
+    ∙ (λ i. cond (held .before .limits-wrong .ensures i || held .held-wrong .ensures i) 13 ((small .check .ensures ∙ (λ u. cond (small .before .too-small .ensures u) 14 0)) i))
 
 pub opening-refusal-spec : {M : Type 1} → statement M
-opening-refusal-spec =
-    tie.close
-    (tie.spec
-    limits-wrong-requires
-    held-wrong-requires
-    too-small-requires
-    limits-refusal-requires
-    returns)
+opening-refusal-spec = tie.close (tie.spec (λ c κs. search needs) (λ c κs. search needs) (λ c κs. search needs) (λ c κs. search needs) (λ c κs. search needs) returns)

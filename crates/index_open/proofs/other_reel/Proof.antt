@@ -1,12 +1,27 @@
--- The tests are the definition's. Assumes nothing.
-use mathlib.Core.Path.{refl}
+use mathlib.Core.Bool.{_||_, not}
+use lib.Dec.{eqb}
 use Rattle.index_model.specs.Opening.{otherReel}
+use borrow.Author.Needs.{needs}
 use Rattle.index_open.proofs.other_reel.Statement.{statement}
 use Rattle.index_open.proofs.other_reel.Tie as tie
 
 returns : tie.Need-returns
 unfolding otherReel
-returns c = refl
+returns c =
+    let spc = c .before .before .before .before .before .before in
+    let craft = spc .before in
+    let tape = craft .before in
+    let day = tape .before in
+    let year = day .before in
+    let rate = year .before in
+    let o = rate .before .before .args .o in
+    λ i.
+    not (eqb (rate .read-field .ensures i) (o .«sample_rate_hz»))
+    || not (eqb (year .read-field2 .ensures i) (o .year))
+    || not (eqb (day .read-field3 .ensures i) (o .day))
+    || not (eqb (tape .read-field4 .ensures i) (o .«tape_number»))
+    || not (eqb (craft .read-field5 .ensures i) (o .spacecraft))
+    || not (eqb (spc .read-field6 .ensures i) (o .spc))
 
 pub other-reel-spec : {M : Type 1} → statement M
-other-reel-spec = tie.close (tie.spec returns)
+other-reel-spec = tie.close (tie.spec (λ c κs. search needs) (λ c κs. search needs) (λ c κs. search needs) (λ c κs. search needs) (λ c κs. search needs) (λ c κs. search needs) returns)

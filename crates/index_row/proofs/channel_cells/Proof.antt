@@ -1,4 +1,3 @@
--- Each cell is the definition's, read back from its bits. Assumes nothing.
 use mathlib.Core.List.{[], _∷_}
 use native.Mathlib.Omega.{arith}
 use mir.Syntax.{w8}
@@ -25,15 +24,6 @@ low c = record { sfits = c .struct-told2 .given .1 .1 .0 .1 }
 high : (c : tie.After-struct-told3) → SFits w8 (total (c .before .before .before .before .before .before .before .before) .greatest)
 high c = record { sfits = c .struct-told3 .given .1 .1 .1 .0 .1 }
 
-sub-at : tie.Need-sub-at
-sub-at c = search needs
-
-mul-total : tie.Need-mul-total
-mul-total c = search needs
-
-array-copy-out-total : tie.Need-array-copy-out-total
-array-copy-out-total c = search needs
-
 mul-sum : tie.Need-mul-sum
 mul-sum c = omega (arith, bounded (c .before) .few)
 
@@ -49,14 +39,14 @@ cast-sum-2 c = cell-fits (sum-made _ _ (bounded (c .before .before .before)))
 cast-squares : tie.Need-cast-squares
 cast-squares c = let b = bounded (c .before .before .before .before) in omega (arith, b .squared, b .few)
 
-cast-least : tie.Need-cast-least
-cast-least c = rw (toZ-ofZ (low c)) (sfits-widen tt (low c))
+cast-least-2 : tie.Need-cast-least-2
+cast-least-2 c = rw (toZ-ofZ (low c)) (sfits-widen tt (low c))
 
 sub-least : tie.Need-sub-least
 sub-least c = made-fits (least-made _ (low c))
 
-cast-least-2 : tie.Need-cast-least-2
-cast-least-2 c = cell-fits (least-made _ (low c))
+cast-least-3 : tie.Need-cast-least-3
+cast-least-3 c = cell-fits (least-made _ (low c))
 
 cast-greatest : tie.Need-cast-greatest
 cast-greatest c = rw (toZ-ofZ (high c)) (sfits-widen tt (high c))
@@ -64,8 +54,8 @@ cast-greatest c = rw (toZ-ofZ (high c)) (sfits-widen tt (high c))
 add-greatest : tie.Need-add-greatest
 add-greatest c = made-fits (greatest-made _ (high c))
 
-cast-greatest-2 : tie.Need-cast-greatest-2
-cast-greatest-2 c = cell-fits (greatest-made _ (high c))
+cast-greatest-3 : tie.Need-cast-greatest-3
+cast-greatest-3 c = cell-fits (greatest-made _ (high c))
 
 returns : tie.Need-returns
 returns c =
@@ -77,18 +67,20 @@ pub channel-cells-spec : {M : Type 1} → statement M
 channel-cells-spec =
     tie.close
     (tie.spec
-    sub-at
-    mul-total
-    array-copy-out-total
+    (λ c. search needs)
+    (λ c. search needs)
+    (λ c. search needs)
     mul-sum
     cast-sum
     add-sum
     cast-sum-2
     cast-squares
-    cast-least
-    sub-least
+    (λ c. search needs)
     cast-least-2
+    sub-least
+    cast-least-3
     cast-greatest
+    (λ c. search needs)
     add-greatest
-    cast-greatest-2
+    cast-greatest-3
     returns)

@@ -1,36 +1,39 @@
--- The row where the header was read, no row where it was refused. Assumes nothing.
-use mathlib.Core.Path.{sym, _∙_}
-use Rattle.index_row.proofs.Read.{header-read, header-refused}
-use Rattle.index_row.proofs.Row.{row-accepted, row-refused}
+use Prim.Native.Nat.{ℕ, _*_, _≤_}
+use mathlib.Core.Path.{ap, sym, subst, _∙_}
+use mathlib.Core.List.{List, _∷_}
+use lib.Dec.{eqb}
+use lib.ListN.{length}
+use Rattle.sample_rates.specs.Rates.{mostSamples}
+use Rattle.index_model.specs.Cells.{stretchCells, flag, rowOf}
+use Rattle.index_row.proofs.Samples.{stretch-most}
 use borrow.Author.Needs.{needs}
 use Rattle.index_row.proofs.row_of.Statement.{statement}
 use Rattle.index_row.proofs.row_of.Tie as tie
 
-read-header-requires : tie.Need-read-header-requires
-read-header-requires c κs = search needs
-
-enum-known-h : tie.Need-enum-known-h
-enum-known-h c = search needs
-
-accepted-row-requires : tie.Need-accepted-row-requires
-accepted-row-requires c κs =
-    let h = c .before in
-    let r = h .before .before in
-    header-read _ (r .read-header .ensures) (h .h .given .1)
-
-enum-told : tie.Need-enum-told
-enum-told c = search needs
+stretch-row-requires : tie.Need-stretch-row-requires
+stretch-row-requires c κs = subst (λ (l : List ℕ). length l ≤ 4 * mostSamples) (sym (c .sample-stretch .ensures)) (stretch-most _)
 
 returns : tie.Need-returns
+unfolding rowOf
 returns c =
-    let h = c .before .before in
-    let r = h .before .before in
-    c .accepted-row .ensures ∙ sym (row-accepted _ (header-read _ (r .read-header .ensures) (h .h .given .1) .0))
-
-returns-2 : tie.Need-returns-2
-returns-2 c = sym (row-refused _ (header-refused _ (c .before .before .read-header .ensures) (c .enum-told .given .1)))
+    let stretch = c .before in
+    let second = stretch .before in
+    let error = second .before in
+    let origin = error .before .before in
+    let bit : ℕ → ℕ = λ (n : ℕ). flag (eqb n 1) in
+    c .stretch-row .ensures
+    ∙ (λ i. 1 ∷ (origin .flag-cell .ensures ∙ ap bit (origin .before .read-field .ensures)) i ∷ (error .flag-cell2 .ensures ∙ ap bit (error .before .read-field2 .ensures)) i ∷ second .second-of .ensures .0 i ∷ stretchCells (stretch .sample-stretch .ensures i))
 
 pub row-of-spec : {M : Type 1} → statement M
 row-of-spec =
     tie.close
-    (tie.spec read-header-requires enum-known-h accepted-row-requires enum-told returns returns-2)
+    (tie.spec
+    (λ c κs. search needs)
+    (λ c κs. search needs)
+    (λ c κs. search needs)
+    (λ c κs. search needs)
+    (λ c κs. search needs)
+    (λ c. search needs)
+    (λ c κs. search needs)
+    stretch-row-requires
+    returns)

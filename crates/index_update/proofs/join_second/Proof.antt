@@ -1,4 +1,3 @@
--- `index_update::join_second` meets its contract. Assumes nothing.
 use mathlib.Core.Path.{_∙_}
 use Rattle.index_model.specs.Cells.{merged}
 use Rattle.index_cells.specs.Blocks.{blockPut}
@@ -9,18 +8,6 @@ use Rattle.index_update.proofs.join_second.Tie as tie
 
 returns : tie.Need-returns
 returns c = joined-before _ _ _ _ (c .if1 .taken)
-
-block-requires : tie.Need-block-requires
-block-requires c κs = search needs
-
-merged-cells-requires : tie.Need-merged-cells-requires
-merged-cells-requires c κs = search needs
-
-put-block-requires : tie.Need-put-block-requires
-put-block-requires c κs = search needs
-
-same-length : tie.Need-same-length
-same-length c = search needs
 
 returns-2 : tie.Need-returns-2
 returns-2 c =
@@ -34,10 +21,4 @@ returns-2 c =
 pub join-second-spec : {M : Type 1} → statement M
 join-second-spec =
     tie.close
-    (tie.spec
-    returns
-    block-requires
-    merged-cells-requires
-    put-block-requires
-    same-length
-    returns-2)
+    (tie.spec returns (λ c κs. search needs) (λ c κs. search needs) (λ c κs. search needs) (λ c. search needs) returns-2)

@@ -1,52 +1,48 @@
--- `index_update::judge_insert` meets its contract. Assumes nothing.
-use mathlib.Core.Path.{sym, _∙_}
+use Prim.Native.Nat.{ℕ, _-_}
+use mathlib.Core.Path.{ap, _∙_}
+use mathlib.Core.Bool.{not, cond}
 use Rattle.answers.specs.Refusal.{_then_}
-use Rattle.index_update.specs.Inner.{headerRefusal}
-use Rattle.index_update.proofs.Judging.{early-limits, put-early, put-header}
+use Rattle.index_model.specs.Buffers.{lent}
+use Rattle.index_model.specs.Opening.{isOutside, inWindow}
+use Rattle.index_model.specs.Calls.{isFull, insertRefusal}
 use borrow.Author.Needs.{needs}
 use Rattle.index_update.proofs.judge_insert.Statement.{statement}
 use Rattle.index_update.proofs.judge_insert.Tie as tie
 
-opening-refusal-requires : tie.Need-opening-refusal-requires
-opening-refusal-requires c κs = search needs
-
-refusal-of-requires : tie.Need-refusal-of-requires
-refusal-of-requires c κs = search needs
-
-first-refusal-requires : tie.Need-first-refusal-requires
-first-refusal-requires c κs = search needs
-
 returns : tie.Need-returns
+unfolding insertRefusal
 returns c =
-    let f = c .before in
-    let a = f .before .before .before .before .before .before .args in
-    put-early (a .o) (a .bytes .now) (a .rows .now) (a .seconds .now) (f .first-refusal .result) (f .first-refusal .ensures ∙ (λ t. f .before .refusal-of .ensures t then f .before .before .opening-refusal .ensures t)) (c .if1 .taken)
-
-read-fields-requires : tie.Need-read-fields-requires
-read-fields-requires c κs = search needs
-
-judge-record-requires : tie.Need-judge-record-requires
-judge-record-requires c κs =
-    let f = c .before .before in
-    let a = f .before .before .before .before .before .before .args in
-    early-limits (a .o) (a .bytes .now) (a .rows .now) (a .seconds .now) (sym (f .first-refusal .ensures ∙ (λ t. f .before .refusal-of .ensures t then f .before .before .opening-refusal .ensures t)) ∙ c .before .if1 .left)
-
-returns-2 : tie.Need-returns-2
-returns-2 c =
-    let f = c .before .before .before in
-    let a = f .before .before .before .before .before .before .args in
-    put-header (a .o) (a .bytes .now) (a .rows .now) (a .seconds .now) (c .judge-record .result)
-    (sym (f .first-refusal .ensures ∙ (λ t. f .before .refusal-of .ensures t then f .before .before .opening-refusal .ensures t)) ∙ c .before .before .if1 .left)
-    (c .judge-record .ensures ∙ (λ t. headerRefusal (a .o) (c .before .read-fields .ensures t) (a .rows .now) (a .seconds .now)))
+    let limits = c .before .before in
+    let reel = limits .before .before in
+    let number = reel .before .before in
+    let window = number .before .before in
+    let room = window .before .before in
+    let place = room .before .before in
+    let s = place .before .before .before .before in
+    let o = s .args .o in
+    let full = room .before .is-full .ensures ∙ (λ t. isFull o ((place .row-place .ensures ∙ ap (λ (n : ℕ). n - 1) (s .pre .0)) t) (s .pre .1 t) (lent (s .args .rows .now) (s .args .seconds .now))) in
+    let eighteen = room .check .ensures ∙ (λ t. cond (full t) 18 0) in
+    let seventeen = window .check2 .ensures ∙ (λ t. cond (not ((window .before .in-window .ensures ∙ ap (inWindow o) (s .pre .1)) t)) 17 (eighteen t)) in
+    let sixteen = number .check3 .ensures ∙ (λ t. cond ((number .before .is-outside .ensures ∙ ap (isOutside o) (s .pre .0)) t) 16 (seventeen t)) in
+    let fifteen = reel .check4 .ensures ∙ (λ t. cond (reel .before .other-reel .ensures t) 15 (sixteen t)) in
+    c .first-refusal2 .ensures
+    ∙ (λ t. c .before .refusal-of .ensures t then (limits .first-refusal .ensures ∙ (λ u. limits .before .opening-refusal .ensures u then fifteen u)) t)
 
 pub judge-insert-spec : {M : Type 1} → statement M
 judge-insert-spec =
     tie.close
     (tie.spec
-    opening-refusal-requires
-    refusal-of-requires
-    first-refusal-requires
-    returns
-    read-fields-requires
-    judge-record-requires
-    returns-2)
+    (λ c κs. search needs)
+    (λ c κs. search needs)
+    (λ c κs. search needs)
+    (λ c κs. search needs)
+    (λ c κs. search needs)
+    (λ c κs. search needs)
+    (λ c κs. search needs)
+    (λ c κs. search needs)
+    (λ c κs. search needs)
+    (λ c κs. search needs)
+    (λ c κs. search needs)
+    (λ c κs. search needs)
+    (λ c κs. search needs)
+    returns)

@@ -1,47 +1,16 @@
--- `index_update::row_within` meets its contract. Assumes nothing.
+use mathlib.Core.Path.{_∙_}
+use mathlib.Core.Bool.{not, _&&_}
+use lib.Dec.{eqb}
 use Rattle.index_model.specs.Cells.{rowWithin}
 use borrow.Author.Needs.{needs}
 use Rattle.index_update.proofs.row_within.Statement.{statement}
 use Rattle.index_update.proofs.row_within.Tie as tie
 
-mul-at : tie.Need-mul-at
-mul-at c = search needs
-
-add-is-of : tie.Need-add-is-of
-add-is-of c = search needs
-
-mul-is-of : tie.Need-mul-is-of
-mul-is-of c = search needs
-
-shared-slice-read-is-of : tie.Need-shared-slice-read-is-of
-shared-slice-read-is-of c = search needs
-
-add-is-of-2 : tie.Need-add-is-of-2
-add-is-of-2 c = search needs
-
-mul-is-of-2 : tie.Need-mul-is-of-2
-mul-is-of-2 c = search needs
-
-shared-slice-read-is-of-2 : tie.Need-shared-slice-read-is-of-2
-shared-slice-read-is-of-2 c = search needs
-
-is-of-requires : tie.Need-is-of-requires
-is-of-requires c κs = search needs
-
 returns : tie.Need-returns
 unfolding rowWithin
-returns c = c .is-of .ensures
+returns c =
+    let held = c .before .before in
+    c .is-of .ensures ∙ (λ t. not (eqb (held .read-cell .ensures t) 0) && eqb (c .before .read-cell2 .ensures t) (held .before .before .args .second))
 
 pub row-within-spec : {M : Type 1} → statement M
-row-within-spec =
-    tie.close
-    (tie.spec
-    mul-at
-    add-is-of
-    mul-is-of
-    shared-slice-read-is-of
-    add-is-of-2
-    mul-is-of-2
-    shared-slice-read-is-of-2
-    is-of-requires
-    returns)
+row-within-spec = tie.close (tie.spec (λ c κs. search needs) (λ c κs. search needs) (λ c κs. search needs) returns)

@@ -1,4 +1,3 @@
--- This record's segment if it is new, else the earlier one's. Assumes nothing.
 use mathlib.Core.Path.{_∙_, ap, sym}
 use denote.Ref.{now}
 use Rattle.answers.specs.Answer.{accepted}
@@ -6,12 +5,6 @@ use Rattle.monitor.proofs.Answers.{new-in-this, new-in-earlier, new-in-
 use borrow.Author.Needs.{needs}
 use Rattle.monitor.proofs.choose_record.Statement.{statement}
 use Rattle.monitor.proofs.choose_record.Tie as tie
-
-stretch-in-requires : tie.Need-stretch-in-requires
-stretch-in-requires c κs = search needs
-
-stretch-in-requires-2 : tie.Need-stretch-in-requires-2
-stretch-in-requires-2 c κs = search needs
 
 returns : tie.Need-returns
 returns c =
@@ -48,5 +41,4 @@ returns-3 c =
     )
 
 pub choose-record-spec : {M : Type 1} → statement M
-choose-record-spec =
-    tie.close (tie.spec stretch-in-requires stretch-in-requires-2 returns returns-2 returns-3)
+choose-record-spec = tie.close (tie.spec (λ c κs. search needs) (λ c κs. search needs) returns returns-2 returns-3)

@@ -1,4 +1,3 @@
--- This record is judged, then the earlier one, then the number. Assumes nothing.
 use mathlib.Core.Path.{_∙_, ap, sym}
 use mathlib.Core.List.{[]}
 use denote.Ref.{now}
@@ -10,9 +9,6 @@ use borrow.Author.Needs.{needs}
 use Rattle.monitor.proofs.find_place.Statement.{statement}
 use Rattle.monitor.proofs.find_place.Tie as tie
 
-refusal-of-requires : tie.Need-refusal-of-requires
-refusal-of-requires c κs = search needs
-
 returns : tie.Need-returns
 unfolding segmentAnswer
 returns c =
@@ -20,9 +16,6 @@ returns c =
     let a = n .before .before .before .args in
     let n-is = n .refusal-of .ensures in
     (ap (refused []) n-is ∙ this-refused (now (a .this)) (now (a .earlier)) (segmentRow (a .number)) (λ z. c .if1 .taken (n-is ∙ z)), tt)
-
-refusal-of-requires-2 : tie.Need-refusal-of-requires-2
-refusal-of-requires-2 c κs = search needs
 
 returns-2 : tie.Need-returns-2
 unfolding segmentAnswer
@@ -36,9 +29,6 @@ returns-2 c =
       tt,
     )
 
-segment-row-requires : tie.Need-segment-row-requires
-segment-row-requires c κs = search needs
-
 returns-3 : tie.Need-returns-3
 unfolding segmentAnswer
 returns-3 c =
@@ -48,9 +38,6 @@ returns-3 c =
     let p = sym (n .refusal-of .ensures) ∙ m .before .if1 .left in
     let q = sym (m .refusal-of2 .ensures) ∙ c .before .before .if2 .left in
     (no-segment (now (a .this)) (now (a .earlier)) (segmentRow (a .number)) p q (sym (c .before .segment-row .ensures .0) ∙ c .if3 .taken), tt)
-
-choose-record-requires : tie.Need-choose-record-requires
-choose-record-requires c κs = search needs
 
 returns-4 : tie.Need-returns-4
 unfolding segmentAnswer
@@ -63,12 +50,5 @@ returns-4 c =
 pub find-place-spec : {M : Type 1} → statement M
 find-place-spec =
     tie.close
-    (tie.spec
-    refusal-of-requires
-    returns
-    refusal-of-requires-2
-    returns-2
-    segment-row-requires
-    returns-3
-    choose-record-requires
-    returns-4)
+    (tie.spec (λ c κs. search needs) returns (λ c κs. search needs) returns-2 (λ c κs. search needs) returns-3
+    (λ c κs. search needs) returns-4)

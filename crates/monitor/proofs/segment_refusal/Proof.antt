@@ -1,4 +1,3 @@
--- The number at the place that was found. Assumes nothing.
 use Prim.Native.Nat.{ℕ}
 use mathlib.Core.Path.{ap}
 use mathlib.Core.List.{List}
@@ -7,18 +6,6 @@ use Rattle.monitor.proofs.Places.{shown-at}
 use borrow.Author.Needs.{needs}
 use Rattle.monitor.proofs.segment_refusal.Statement.{statement}
 use Rattle.monitor.proofs.segment_refusal.Tie as tie
-
-find-place-requires : tie.Need-find-place-requires
-find-place-requires c κs = search needs
-
-enum-told : tie.Need-enum-told
-enum-told c = search needs
-
-enum-told-2 : tie.Need-enum-told-2
-enum-told-2 c = search needs
-
-enum-known-n : tie.Need-enum-known-n
-enum-known-n c = search needs
 
 returns : tie.Need-returns
 returns c =
@@ -38,4 +25,4 @@ returns-3 c =
 pub segment-refusal-spec : {M : Type 1} → statement M
 segment-refusal-spec =
     tie.close
-    (tie.spec find-place-requires enum-told enum-told-2 enum-known-n returns returns-2 returns-3)
+    (tie.spec (λ c κs. search needs) (λ c. search needs) (λ c. search needs) (λ c. search needs) returns returns-2 returns-3)

@@ -1,26 +1,22 @@
--- The search through the rows: the rows passed and the place among the rest are the row. Assumes nothing.
 use Prim.Native.Nat.{_+_, _-_, _≤_}
 use mathlib.Core.Path.{_≡_, ap, sym, _∙_}
 use native.Mathlib.Omega.{arith}
 use lib.ListN.{drop}
 use borrow.Author.Needs.{needs}
-use Rattle.monitor.specs.Segments.{segments, segmentNumber, rowIn, segmentRow}
+use Rattle.monitor.specs.Segments.{segments, segmentCount, segmentNumber, rowIn, segmentRow}
 use Rattle.monitor.proofs.Segments.{found, passed, none-left}
 use Rattle.monitor.proofs.segment_row.Statement.{statement}
 use Rattle.monitor.proofs.segment_row.Tie as tie
 
 abbrev Inv-loop : tie.InvT-loop
-Inv-loop number row₀ row = (row ≤ 7) × (row + rowIn (drop row segments) number ≡ segmentRow number)
+Inv-loop number row₀ row = (row ≤ segmentCount) × (row + rowIn (drop row segments) number ≡ segmentRow number)
 
 abbrev μ-loop : tie.MeasureT-loop
-μ-loop number row₀ row = 7 - row
+μ-loop number row₀ row = segmentCount - row
 
 loop-holds : tie.Need-loop-holds Inv-loop μ-loop
 unfolding segmentRow
 loop-holds c = search needs
-
-words-of-requires : tie.Need-words-of-requires Inv-loop μ-loop
-words-of-requires c κs = search needs
 
 returns : tie.Need-returns Inv-loop μ-loop
 returns c =
@@ -29,12 +25,6 @@ returns c =
     let e =
     found segments (l .before .args .number) (l .loop .row) (search needs) (ap segmentNumber (sym (w .words-of .ensures .0)) ∙ c .if1 .taken) in
     (omega (arith, e, l .loop .inv .1), search needs)
-
-add-row : tie.Need-add-row Inv-loop μ-loop
-add-row c = search needs
-
-loop-less : tie.Need-loop-less Inv-loop μ-loop
-loop-less c = search needs
 
 loop-again : tie.Need-loop-again Inv-loop μ-loop
 loop-again c =
@@ -54,13 +44,5 @@ returns-2 c =
 pub segment-row-spec : {M : Type 1} → statement M
 segment-row-spec =
     tie.close
-    (tie.spec
-    Inv-loop
-    μ-loop
-    loop-holds
-    words-of-requires
-    returns
-    add-row
-    loop-less
-    loop-again
+    (tie.spec Inv-loop μ-loop loop-holds (λ c κs. search needs) returns (λ c. search needs) (λ c. search needs) loop-again
     returns-2)

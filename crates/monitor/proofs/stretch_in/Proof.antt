@@ -1,4 +1,3 @@
--- A segment's bytes and its status bit in an accepted record. Assumes nothing.
 use Prim.Native.Nat.{ℕ}
 use mathlib.Core.Path.{_∙_, ap}
 use denote.Ref.{now}
@@ -7,48 +6,6 @@ use Rattle.monitor.proofs.Monitor.{stretch-bytes, stretch-new}
 use borrow.Author.Needs.{needs}
 use Rattle.monitor.proofs.stretch_in.Statement.{statement}
 use Rattle.monitor.proofs.stretch_in.Tie as tie
-
-last-sample-word-requires : tie.Need-last-sample-word-requires
-last-sample-word-requires c κs = search needs
-
-words-of-requires : tie.Need-words-of-requires
-words-of-requires c κs = search needs
-
-add-start : tie.Need-add-start
-add-start c = search needs
-
-sub-start : tie.Need-sub-start
-sub-start c = search needs
-
-mul-start : tie.Need-mul-start
-mul-start c = search needs
-
-add-end : tie.Need-add-end
-add-end c = search needs
-
-sub-end : tie.Need-sub-end
-sub-end c = search needs
-
-mul-end : tie.Need-mul-end
-mul-end c = search needs
-
-add-end-2 : tie.Need-add-end-2
-add-end-2 c = search needs
-
-add-status-bit : tie.Need-add-status-bit
-add-status-bit c = search needs
-
-mul-read-bits : tie.Need-mul-read-bits
-mul-read-bits c = search needs
-
-add-read-bits : tie.Need-add-read-bits
-add-read-bits c = search needs
-
-sub-read-bits : tie.Need-sub-read-bits
-sub-read-bits c = search needs
-
-read-bits-requires : tie.Need-read-bits-requires
-read-bits-requires c κs = search needs
 
 returns : tie.Need-returns
 returns c =
@@ -70,19 +27,6 @@ returns c =
 pub stretch-in-spec : {M : Type 1} → statement M
 stretch-in-spec =
     tie.close
-    (tie.spec
-    last-sample-word-requires
-    words-of-requires
-    add-start
-    sub-start
-    mul-start
-    add-end
-    sub-end
-    mul-end
-    add-end-2
-    add-status-bit
-    mul-read-bits
-    add-read-bits
-    sub-read-bits
-    read-bits-requires
-    returns)
+    (tie.spec (λ c κs. search needs) (λ c κs. search needs) (λ c. search needs) (λ c. search needs) (λ c. search needs)
+    (λ c. search needs) (λ c. search needs) (λ c. search needs) (λ c. search needs) (λ c. search needs) (λ c. search needs)
+    (λ c. search needs) (λ c. search needs) (λ c κs. search needs) returns)

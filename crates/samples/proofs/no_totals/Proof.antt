@@ -1,4 +1,3 @@
--- A refusal's number, and totals of 0 beside it. Assumes nothing.
 use Rattle.answers.proofs.Refusals.{told-none}
 use Rattle.samples.specs.Totals.{noTotals}
 use Rattle.samples.proofs.no_totals.Statement.{statement}

@@ -1,0 +1,17 @@
+use Prim.Native.Nat.{ℕ, _/_}
+use mathlib.Core.Path.{ap}
+use native.Mathlib.Omega.{arith}
+use denote.Ref.{now}
+use Rattle.index_model.specs.Records.{secondMs, secondOf}
+use Rattle.index_row.proofs.Samples.{tag-small}
+use borrow.Author.Needs.{needs}
+use Rattle.index_row.proofs.second_of.Statement.{statement}
+use Rattle.index_row.proofs.second_of.Tie as tie
+
+returns : tie.Need-returns
+unfolding secondOf
+returns c =
+    (ap (λ (tag : ℕ). tag / secondMs) (c .read-field .ensures), omega (arith, c .read-field .ensures, tag-small (now (c .before .before .args .bytes))))
+
+pub second-of-spec : {M : Type 1} → statement M
+second-of-spec = tie.close (tie.spec (λ c κs. search needs) returns)
