@@ -7,7 +7,6 @@ ghost use lib.Dec.{eqb};
 ghost use lib.ListN.{length};
 ghost use Rattle.index_model.specs.Cells.{width, cellLimit, cell, blockAt, isGreatest, merge, merged, rowWithin, secondFrom};
 ghost use Rattle.index_cells.specs.Blocks.{blockOrNone, blockPut};
-
 use index_model::CELL_LIMIT;
 use index_model::WIDTH;
 

@@ -4,7 +4,7 @@
 -- verdict worked out from nothing over the records then held, the test says yes, and each call altered only what it may. What
 -- `odr_second_means` answers then is the ledger's too.
 --
--- `odr_open` promises what `promised` says, and the later calls promise to be the `insertRefusal`, `insertRows`, `queryAnswer` and so on that
+-- `odr_open` promises what `promised` says, and the later calls promise to be the `insertRefusal`, `inserted`, `queryAnswer` and so on that
 -- a history is made of, with the opening that they are given. Assumes nothing.
 use Prim.Native.Nat.{ℕ}
 use mathlib.Core.Path.{_≡_, ap, sym, _∙_, subst}
@@ -13,38 +13,39 @@ use mathlib.Core.List.{List}
 use Rattle.answers.specs.Answer.{accepted, told}
 use Rattle.answers.proofs.Refusals.{given-value}
 use Rattle.index_model.specs.declared.Opening.{Opening}
-use Rattle.index_model.specs.Opening.{openingOf, noOpening, openRefusal, openAnswer}
+use Rattle.index_model.specs.Opening.{openingOf, noOpening, openRefusal, openAnswer, opened}
 use Rattle.index_model.specs.Ledger.{Call, noRecords}
 use Rattle.index_model.specs.Calls.{consistencyAnswer}
-use Rattle.index_model.specs.History.{Cells, after, ledgerAfter}
+use Rattle.index_model.specs.Buffers.{Buffers}
+use Rattle.index_model.specs.History.{after, ledgerAfter}
 use Rattle.index_model.proofs.Opened.{returned}
-use Rattle.index_model.proofs.Demand3.{Demand3, opened, demand3, SaysYes, test-says-yes}
+use Rattle.index_model.proofs.Demand3.{Demand3, demand3, SaysYes, test-says-yes}
 use Rattle.index_means.specs.Means.{meansAnswer}
 use Rattle.index_means.specs.OfLedger.{ledgerMeansAnswer}
 use Rattle.index_means.proofs.History.{ByLedger, means-of-history}
 use Rattle.odr.specs.declared.OpenOut.{OpenOut}
 
-module _ (pattern : List ℕ) (F C R : ℕ) (rows seconds : List ℕ)
-    (r : OpenOut) (promised : told (r .refusal) (r .opening) ≡ openAnswer pattern F C R rows seconds) (none : r .refusal ≡ 0) (calls : List Call) where
-  given : (openRefusal pattern F C R rows seconds ≡ 0) × (r .opening ≡ openingOf pattern F C R)
+module _ (pattern : List ℕ) (F C R : ℕ) (c : Buffers)
+    (r : OpenOut) (promised : told (r .refusal) (r .opening) ≡ openAnswer pattern F C R c) (none : r .refusal ≡ 0) (calls : List Call) where
+  given : (openRefusal pattern F C R c ≡ 0) × (r .opening ≡ openingOf pattern F C R)
   unfolding openAnswer
   given =
-      given-value (openRefusal pattern F C R rows seconds) noOpening (openingOf pattern F C R) (r .opening)
+      given-value (openRefusal pattern F C R c) noOpening (openingOf pattern F C R) (r .opening)
       (ap (λ (n : ℕ). told n (r .opening)) (sym none) ∙ promised)
 
-  same : openAnswer pattern F C R rows seconds .value ≡ r .opening
-  same = returned pattern F C R rows seconds (given .0) ∙ sym (given .1)
+  same : openAnswer pattern F C R c .value ≡ r .opening
+  same = returned pattern F C R c (given .0) ∙ sym (given .1)
 
-  pub exported : Demand3 (r .opening) (opened pattern F C R rows seconds) calls
+  pub exported : Demand3 (r .opening) (opened pattern F C R c) calls
   exported =
-      subst (λ (o : Opening). Demand3 o (opened pattern F C R rows seconds) calls) same
-      (demand3 pattern F C R rows seconds (given .0) calls)
+      subst (λ (o : Opening). Demand3 o (opened pattern F C R c) calls) same
+      (demand3 pattern F C R c (given .0) calls)
 
-  abbrev pub end : Cells
-  end = after (r .opening) calls (opened pattern F C R rows seconds)
+  abbrev pub end : Buffers
+  end = after (r .opening) calls (opened pattern F C R c)
 
-  pub exported-test : consistencyAnswer (r .opening) (end .rows) (end .seconds) ≡ accepted true
-  exported-test = subst (SaysYes pattern F C R rows seconds (given .0) calls) same (test-says-yes pattern F C R rows seconds (given .0) calls)
+  pub exported-test : consistencyAnswer (r .opening) end ≡ accepted true
+  exported-test = subst (SaysYes pattern F C R c (given .0) calls) same (test-says-yes pattern F C R c (given .0) calls)
 
-  pub exported-means : (s : ℕ) → meansAnswer (r .opening) s (end .rows) (end .seconds) ≡ ledgerMeansAnswer (r .opening) (ledgerAfter (r .opening) calls noRecords) s
-  exported-means s = subst (ByLedger pattern F C R rows seconds (given .0) calls s) same (means-of-history pattern F C R rows seconds (given .0) calls s)
+  pub exported-means : (s : ℕ) → meansAnswer (r .opening) s end ≡ ledgerMeansAnswer (r .opening) (ledgerAfter (r .opening) calls noRecords) s
+  exported-means s = subst (ByLedger pattern F C R c (given .0) calls s) same (means-of-history pattern F C R c (given .0) calls s)

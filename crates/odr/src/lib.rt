@@ -14,8 +14,9 @@ ghost use Rattle.times.specs.SampleTime.{timeAnswer};
 ghost use Rattle.times.specs.Phases.{phaseAnswer};
 ghost use Rattle.monitor.specs.Monitor.{segmentAnswer};
 ghost use Rattle.reel.specs.Reel.{stepAt};
-ghost use Rattle.index_model.specs.Opening.{openAnswer, openRows, openSeconds};
-ghost use Rattle.index_model.specs.Calls.{insertRefusal, insertRows, insertSeconds, removeRefusal, removeRows, removeSeconds, queryAnswer, consistencyAnswer};
+ghost use Rattle.index_model.specs.Buffers.{lent};
+ghost use Rattle.index_model.specs.Opening.{openAnswer, opened};
+ghost use Rattle.index_model.specs.Calls.{insertRefusal, inserted, removeRefusal, removed, queryAnswer, consistencyAnswer};
 ghost use Rattle.index_query.specs.Shown.{shownSecond};
 ghost use Rattle.index_means.specs.Means.{meansAnswer};
 ghost use Rattle.index_means.specs.Shown.{shownMeans};
@@ -296,9 +297,9 @@ pub extern "C" fn odr_open(
     rows: &mut [u32],
     seconds: &mut [u32],
 ) -> OpenOut
-    ensures { λ r. ⌜ told (r .refusal) (r .opening) ≡ openAnswer (now (pattern .entry)) «first_second» «second_count» «highest_number» (now (rows .entry)) (now (seconds .entry)) ⌝ }
-    ensures { λ _. ⌜ now (rows .exit) ≡ openRows (now (pattern .entry)) «first_second» «second_count» «highest_number» (now (rows .entry)) (now (seconds .entry)) ⌝ }
-    ensures { λ _. ⌜ now (seconds .exit) ≡ openSeconds (now (pattern .entry)) «first_second» «second_count» «highest_number» (now (rows .entry)) (now (seconds .entry)) ⌝ }
+    ensures { λ r. ⌜ told (r .refusal) (r .opening) ≡ openAnswer (now (pattern .entry)) «first_second» «second_count» «highest_number» (lent (now (rows .entry)) (now (seconds .entry))) ⌝ }
+    ensures { λ _. ⌜ now (rows .exit) ≡ opened (now (pattern .entry)) «first_second» «second_count» «highest_number» (lent (now (rows .entry)) (now (seconds .entry))) .rows ⌝ }
+    ensures { λ _. ⌜ now (seconds .exit) ≡ opened (now (pattern .entry)) «first_second» «second_count» «highest_number» (lent (now (rows .entry)) (now (seconds .entry))) .seconds ⌝ }
 {
     match index_open::open(
         pattern,
@@ -326,9 +327,9 @@ pub extern "C" fn odr_insert(
     rows: &mut [u32],
     seconds: &mut [u32],
 ) -> u8
-    ensures { λ r. ⌜ r ≡ insertRefusal opening (now (bytes .entry)) (now (rows .entry)) (now (seconds .entry)) ⌝ }
-    ensures { λ _. ⌜ now (rows .exit) ≡ insertRows opening (now (bytes .entry)) (now (rows .entry)) (now (seconds .entry)) ⌝ }
-    ensures { λ _. ⌜ now (seconds .exit) ≡ insertSeconds opening (now (bytes .entry)) (now (rows .entry)) (now (seconds .entry)) ⌝ }
+    ensures { λ r. ⌜ r ≡ insertRefusal opening (now (bytes .entry)) (lent (now (rows .entry)) (now (seconds .entry))) ⌝ }
+    ensures { λ _. ⌜ now (rows .exit) ≡ inserted opening (now (bytes .entry)) (lent (now (rows .entry)) (now (seconds .entry))) .rows ⌝ }
+    ensures { λ _. ⌜ now (seconds .exit) ≡ inserted opening (now (bytes .entry)) (lent (now (rows .entry)) (now (seconds .entry))) .seconds ⌝ }
 {
     index_update::insert(opening, bytes, rows, seconds)
 }
@@ -340,9 +341,9 @@ pub extern "C" fn odr_remove(
     rows: &mut [u32],
     seconds: &mut [u32],
 ) -> u8
-    ensures { λ r. ⌜ r ≡ removeRefusal opening number (now (rows .entry)) (now (seconds .entry)) ⌝ }
-    ensures { λ _. ⌜ now (rows .exit) ≡ removeRows opening number (now (rows .entry)) (now (seconds .entry)) ⌝ }
-    ensures { λ _. ⌜ now (seconds .exit) ≡ removeSeconds opening number (now (rows .entry)) (now (seconds .entry)) ⌝ }
+    ensures { λ r. ⌜ r ≡ removeRefusal opening number (lent (now (rows .entry)) (now (seconds .entry))) ⌝ }
+    ensures { λ _. ⌜ now (rows .exit) ≡ removed opening number (lent (now (rows .entry)) (now (seconds .entry))) .rows ⌝ }
+    ensures { λ _. ⌜ now (seconds .exit) ≡ removed opening number (lent (now (rows .entry)) (now (seconds .entry))) .seconds ⌝ }
 {
     index_update::remove(opening, number, rows, seconds)
 }
@@ -354,7 +355,7 @@ pub extern "C" fn odr_query(
     rows: &[u32],
     seconds: &[u32],
 ) -> SecondAnswer
-    ensures { λ r. ⌜ shownSecond r ≡ queryAnswer opening second (now (rows .entry)) (now (seconds .entry)) ⌝ }
+    ensures { λ r. ⌜ shownSecond r ≡ queryAnswer opening second (lent (now (rows .entry)) (now (seconds .entry))) ⌝ }
 {
     index_query::query(opening, second, rows, seconds)
 }
@@ -366,7 +367,7 @@ pub extern "C" fn odr_second_means(
     rows: &[u32],
     seconds: &[u32],
 ) -> MeansAnswer
-    ensures { λ r. ⌜ shownMeans r ≡ meansAnswer opening second (now (rows .entry)) (now (seconds .entry)) ⌝ }
+    ensures { λ r. ⌜ shownMeans r ≡ meansAnswer opening second (lent (now (rows .entry)) (now (seconds .entry))) ⌝ }
 {
     index_means::second_means(opening, second, rows, seconds)
 }
@@ -377,7 +378,7 @@ pub extern "C" fn odr_is_consistent(
     rows: &[u32],
     seconds: &[u32],
 ) -> ConsistencyOut
-    ensures { λ r. ⌜ told (r .refusal) (r .consistent) ≡ consistencyAnswer opening (now (rows .entry)) (now (seconds .entry)) ⌝ }
+    ensures { λ r. ⌜ told (r .refusal) (r .consistent) ≡ consistencyAnswer opening (lent (now (rows .entry)) (now (seconds .entry))) ⌝ }
 {
     match index_query::is_consistent(opening, rows, seconds) {
         ConsistencyAnswer::Consistent(consistent) => ConsistencyOut {

@@ -1,7 +1,7 @@
 -- What the test says in its case, or the refusal. Assumes nothing.
 use denote.Ref.{now}
 use mathlib.Core.Bool.{false}
-use lib.ListN.{length}
+use Rattle.index_model.specs.Buffers.{lent}
 use Rattle.index_model.specs.Opening.{openingRefusal}
 use Rattle.index_model.specs.Calls.{isConsistent, consistencyAnswer}
 use Rattle.index_query.specs.Shown.{shownConsistency}
@@ -27,7 +27,7 @@ unfolding consistencyAnswer
 returns-2 c =
     let call = c .before .before .before in
     let a = call .before .before .before .args in
-    told-refused (openingRefusal (a .opening) (length (now (a .rows))) (length (now (a .seconds)))) false (isConsistent (a .opening) (now (a .rows)) (now (a .seconds)))
+    told-refused (openingRefusal (a .opening) (lent (now (a .rows)) (now (a .seconds)))) false (isConsistent (a .opening) (lent (now (a .rows)) (now (a .seconds))))
     (in-case shownConsistency (call .is-consistent .ensures) (c .before .refusal .given .1))
 
 pub odr-is-consistent-spec : {M : Type 1} → statement M

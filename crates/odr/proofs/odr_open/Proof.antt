@@ -1,5 +1,6 @@
 -- The opening in its case, or the refusal; the cells are as opening left them. Assumes nothing.
 use denote.Ref.{now}
+use Rattle.index_model.specs.Buffers.{lent}
 use Rattle.index_model.specs.Opening.{openingOf, noOpening, openRefusal, openAnswer}
 use Rattle.index_open.specs.Shown.{shownOpen}
 use Rattle.odr.proofs.Told.{in-case, told-refused}
@@ -41,7 +42,7 @@ returns-2 c =
     let F = a .first-second in
     let C = a .second-count in
     let R = a .highest-number in (
-      told-refused (openRefusal (now (a .pattern)) F C R (now (a .rows)) (now (a .seconds))) noOpening (openingOf (now (a .pattern)) F C R)
+      told-refused (openRefusal (now (a .pattern)) F C R (lent (now (a .rows)) (now (a .seconds)))) noOpening (openingOf (now (a .pattern)) F C R)
           (in-case shownOpen (call .«open» .ensures .0) (c .before .refusal .given .1)),
       call .«open» .ensures .1,
     )
