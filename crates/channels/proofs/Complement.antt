@@ -30,13 +30,15 @@ pub complement-fits : (n : ℕ) → n < 128 → SFits w8 (negsuc 0 -ℤ toZ w8 n
 complement-fits n h = subst (SFits w8) (sym (complement-of n h)) (record { sfits = h })
 
 -- a sample from 0 up, as the code reads it, is its byte, below 128
-pub not-negative : (x : ℤ) → SFits w8 x → leZ (pos 0) (toZ w8 (ofZ w8 x)) ≡ true → (toZ w8 (ofZ w8 x) ≡ pos (byteOf x)) × (byteOf x < 128)
+pub not-negative : (x : ℤ) → SFits w8 x → leZ (pos 0) (toZ w8 (ofZ w8 x)) ≡ true
+    → (toZ w8 (ofZ w8 x) ≡ pos (byteOf x)) × (byteOf x < 128)
 unfolding byteOf
 not-negative (pos n) f e = (toZ-ofZ w8 (pos n) f, f .sfits)
 not-negative (negsuc n) f e = absurd (held false (ap (leZ (pos 0)) (sym (toZ-ofZ w8 (negsuc n) f)) ∙ e))
 
 -- the complement of a negative sample is 255 less its byte, below 128
-pub negative : (x : ℤ) → SFits w8 x → leZ (pos 0) (toZ w8 (ofZ w8 x)) ≡ false → (negsuc 0 -ℤ toZ w8 (ofZ w8 x) ≡ pos (255 - byteOf x)) × (128 ≤ byteOf x) × (byteOf x ≤ 255)
+pub negative : (x : ℤ) → SFits w8 x → leZ (pos 0) (toZ w8 (ofZ w8 x)) ≡ false
+    → (negsuc 0 -ℤ toZ w8 (ofZ w8 x) ≡ pos (255 - byteOf x)) × (128 ≤ byteOf x) × (byteOf x ≤ 255)
 unfolding byteOf
 negative (pos n) f e = absurd (let z : ⊥ = omega (arith, leb-false 0 n (ap (leZ (pos 0)) (sym (toZ-ofZ w8 (pos n) f)) ∙ e)) in z)
 negative (negsuc n) f e = (

@@ -1,5 +1,4 @@
--- Samples in from channels and out again give the channels back (01: "Samples go out to four lent channel buffers of signed
--- bytes and come back in"). Assumes nothing.
+-- Samples in from channels and out again give the channels back. FORMAT, "Samples". Assumes nothing.
 use Prim.Native.Nat.{ℕ, _+_, _-_, _*_, _≤_, _<_}
 use mathlib.Core.Path.{_≡_, refl, ap, sym, _∙_}
 use mathlib.Core.List.{List, _++_}
@@ -28,7 +27,8 @@ module _ (one two three four : List ℤ) (n c : ℕ) (least : 1 ≤ c) (most : c
       ∙ signed-of-byte (getD (channelOf one two three four c) k (pos 0)) f
 
   -- all n of them
-  pub samples-out : n ≤ length (channelOf one two three four c) → ((k : ℕ) → mag (getD (channelOf one two three four c) k (pos 0)) < 128)
+  pub samples-out : n ≤ length (channelOf one two three four c)
+      → ((k : ℕ) → mag (getD (channelOf one two three four c) k (pos 0)) < 128)
       → samplesOf (interleaved n one two three four) c n ≡ take n (channelOf one two three four c)
   samples-out h f =
       sym
@@ -36,7 +36,8 @@ module _ (one two three four : List ℤ) (n c : ℕ) (least : 1 ≤ c) (most : c
       (λ k q. (rw getD-take) ∙ sym (in-then-out k q (f k))))
 
   -- a buffer to which they go out
-  pub buffer-out : (buffer : List ℤ) → n ≤ length (channelOf one two three four c) → ((k : ℕ) → mag (getD (channelOf one two three four c) k (pos 0)) < 128)
+  pub buffer-out : (buffer : List ℤ) → n ≤ length (channelOf one two three four c)
+      → ((k : ℕ) → mag (getD (channelOf one two three four c) k (pos 0)) < 128)
       → over buffer (sampleOf (interleaved n one two three four) c) n ≡ take n (channelOf one two three four c) ++ drop n buffer
   unfolding over
   buffer-out buffer h f = ap (λ (x : List ℤ). x ++ drop n buffer) (samples-out h f)

@@ -21,7 +21,8 @@ channel-of-each rule one two three four (suc (suc (suc (suc (suc c))))) l h = ab
 
 module _ (one two three four : List ℤ) where
   -- byte 4k + j is sample k of channel j + 1
-  pub byte-at : (i k j : ℕ) → i ≡ 4 * k + j → j < 4 → interleavedByte one two three four i ≡ byteOf (getD (channelOf one two three four (j + 1)) k (pos 0))
+  pub byte-at : (i k j : ℕ) → i ≡ 4 * k + j → j < 4
+      → interleavedByte one two three four i ≡ byteOf (getD (channelOf one two three four (j + 1)) k (pos 0))
   byte-at i k j e h =
       let r : i % 4 ≡ j = omega (arith, e) in
       let q : i / 4 ≡ k = omega (arith, e) in

@@ -1,5 +1,4 @@
--- Samples out to channels and in again give the stretch back (01: "Samples go out to four lent channel buffers of signed bytes
--- and come back in"). Assumes nothing.
+-- Samples out to channels and in again give the stretch back. FORMAT, "Samples". Assumes nothing.
 use Prim.Native.Nat.{ℕ, _+_, _-_, _*_, _/_, _%_, _≤_, _<_}
 use mathlib.Core.Path.{_≡_, ap, sym, _∙_}
 use mathlib.Core.List.{List, []}

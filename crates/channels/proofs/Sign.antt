@@ -18,9 +18,6 @@ pub signed-high : (b : ℕ) → 128 ≤ b → signedOf b ≡ negsuc (255 - b)
 unfolding signedOf
 signed-high b h = ap (λ (t : Bool). cond t (pos b) (negsuc (255 - b))) (le-ltb b 128 h)
 
-pub signed-fits : (b : ℕ) → b < 256 → mag (signedOf b) < 128
-signed-fits b h = ⊎-elim (λ p. omega (arith, ap mag (signed-high b p))) (λ p. omega (arith, ap mag (signed-low b p))) (le-or-lt 128 b)
-
 pub byte-of-signed : (b : ℕ) → b < 256 → byteOf (signedOf b) ≡ b
 unfolding byteOf
 byte-of-signed b h = ⊎-elim (λ p. omega (arith, ap byteOf (signed-high b p))) (λ p. ap byteOf (signed-low b p)) (le-or-lt 128 b)

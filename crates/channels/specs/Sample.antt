@@ -1,5 +1,5 @@
--- Samples: two's complement bytes, the four channels in turn (01: "Sample k (from 0) of channel c (1 to 4) is byte
--- 80 + 4k + (c - 1), a two's complement number"). A stretch is the bytes from byte 80.
+-- Samples: two's complement bytes, the four channels in turn. FORMAT, "Samples". A stretch is the bytes of a record's samples, so
+-- sample k of channel c is its byte 4k + (c - 1).
 use Prim.Native.Nat.{ℕ, _+_, _-_, _*_, _/_, _%_, min}
 use mathlib.Core.Bool.{cond, _||_}
 use mathlib.Core.List.{List, [], _++_}

@@ -1,5 +1,5 @@
-// Samples of a record's sample stretch, out to channels and back (01: "Samples go out to four lent channel buffers of signed
-// bytes and come back in"). The stretch is what the caller cut from byte 80; nothing here knows of records.
+// The samples of a stretch, out to channels and back in. FORMAT, "Samples". The stretch is what the caller hands on; nothing here
+// knows of records.
 ghost use mathlib.Core.Path.{_≡_};
 ghost use Prim.Native.Nat.{_*_, _≤_, _<_};
 ghost use lib.IntN.{pos};

@@ -1,5 +1,5 @@
--- The listing in the cases that 01 names: "Empty input prints the header line only."; an input that is too long; and a reel of
--- accepted records, each of which has its line. Assumes nothing.
+-- The listing in the cases that FORMAT names: an empty input, which gives the header line only; an input that is too long; and a reel
+-- of accepted records, each of which has its line. Assumes nothing.
 use Prim.Native.Nat.{ℕ, _≤_, _<_}
 use mathlib.Core.Path.{_≡_, ap, _∙_}
 use mathlib.Core.Bool.{Bool, cond}
@@ -10,7 +10,7 @@ use Rattle.reel.specs.Reel.{stepAt}
 use Rattle.reel.specs.Walk.{walk, walkFrom, AllAccepted}
 use Rattle.reel.proofs.Walk.{records-handed}
 use Rattle.text.specs.Text.{headerLine, refusedLine}
-use Rattle.listing.specs.Listing.{longestInput, recordTexts, lastText, listing}
+use Rattle.listing.specs.Listing.{longestInput, recordTexts, lastText, walkText, listing}
 
 pub empty-input : listing [] ≡ headerLine
 unfolding listing walk walkFrom stepAt recordTexts
@@ -20,12 +20,12 @@ empty-input = append-nil headerLine
 pub too-long : (input : List ℕ) → longestInput < length input → listing input ≡ headerLine ++ refusedLine 24
 unfolding listing
 too-long input h =
-    ap (λ (t : Bool). headerLine ++ cond t (refusedLine 24) (recordTexts (walk input .records) ++ lastText (walk input .last))) (lt-ltb longestInput (length input) h)
+    ap (λ (t : Bool). headerLine ++ cond t (refusedLine 24) (walkText (walk input))) (lt-ltb longestInput (length input) h)
 
-pub not-too-long : (input : List ℕ) → length input ≤ longestInput → listing input ≡ headerLine ++ (recordTexts (walk input .records) ++ lastText (walk input .last))
+pub not-too-long : (input : List ℕ) → length input ≤ longestInput → listing input ≡ headerLine ++ walkText (walk input)
 unfolding listing
 not-too-long input h =
-    ap (λ (t : Bool). headerLine ++ cond t (refusedLine 24) (recordTexts (walk input .records) ++ lastText (walk input .last))) (le-ltb longestInput (length input) h)
+    ap (λ (t : Bool). headerLine ++ cond t (refusedLine 24) (walkText (walk input))) (le-ltb longestInput (length input) h)
 
 pub accepted-reel : (bs : List (List ℕ)) → AllAccepted bs → length (flatten bs) ≤ longestInput → listing (flatten bs) ≡ headerLine ++ recordTexts bs
 accepted-reel bs t h =

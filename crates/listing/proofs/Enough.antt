@@ -4,24 +4,21 @@ use Prim.Native.Nat.{ℕ, _+_, _*_, _/_, _≤_}
 use mathlib.Core.Path.{_≡_, refl, ap}
 use mathlib.Core.Bool.{Bool, true, false, cond}
 use mathlib.Core.List.{List, _++_}
-use native.Mathlib.Nat.{le-trans}
 use native.Mathlib.Omega.{arith}
 use lib.Dec.{ltb, lit<}
 use lib.ListN.{length, length-append}
 use borrow.Author.Tests.{ltb-true, ltb-false}
-use Rattle.answers.specs.Answer.{accepted}
-use Rattle.record.specs.Record.{headerBytes}
+use Rattle.header.specs.Format.{headerBytes}
 use Rattle.reel.specs.Reel.{Found, stepAt}
 use Rattle.reel.specs.Walk.{walk}
 use Rattle.reel.proofs.Onward.{along}
 use Rattle.reel.proofs.Walk.{all-accepted, ends-there}
 use Rattle.text.specs.Number.{decimalText, digitsIn}
 use Rattle.text.specs.Text.{headerLine, refusedLine}
+use Rattle.text.proofs.Judging.{not-refused}
 use Rattle.text.proofs.Line.{refusedLine-length}
-use Rattle.listing.specs.Listing.{longestInput, recordTexts, lastText, listing, shortestRecord, mostRecords, longestLine, longestListing}
-use Rattle.listing.specs.Listing.{textRefusal, textAnswer, textOver, bufferAfter, listAnswer, listAfter}
+use Rattle.listing.specs.Listing.{longestInput, recordTexts, lastText, walkText, listing, shortestRecord, mostRecords, longestLine, longestListing, textRefusal}
 use Rattle.listing.proofs.Longest.{far, texts-small, last-small, last-short}
-use Rattle.listing.proofs.Answers.{has-room}
 
 module _ (input : List ℕ) where
   abbrev records : List (List ℕ)
@@ -31,7 +28,7 @@ module _ (input : List ℕ) where
   place = walk input .place
 
   abbrev walked : List ℕ
-  walked = recordTexts records ++ lastText (walk input .last)
+  walked = walkText (walk input)
 
   -- the records lie one behind the other in the input
   inside : (shortestRecord * length records ≤ place) × (place ≤ length input)
@@ -67,17 +64,9 @@ module _ (input : List ℕ) where
     where
       by-test : (t : Bool) → ltb longestInput (length input) ≡ t
           → length (headerLine ++ cond t (refusedLine 24) walked) ≤ longestListing
-      by-test true e = omega (arith, length-append headerLine (refusedLine 24), refusedLine-length 24 (lit< tt))
+      by-test true e = omega (arith, length-append headerLine (refusedLine 24), refusedLine-length 2 24 (lit< tt) (lit< tt))
       by-test false e =
           omega (arith, length-append headerLine walked, walked-small (ltb-false longestInput (length input) e))
 
 pub never-21 : (input out : List ℕ) → longestListing ≤ length out → textRefusal out (listing input) ≡ 0
-never-21 input out h = has-room out (listing input) refl (le-trans (listing-small input) h)
-
--- so that the listing is what such a buffer holds, whatever the input
-pub always-listed : (input out : List ℕ) → longestListing ≤ length out
-    → (listAnswer input out ≡ accepted (length (listing input))) × (listAfter input out ≡ textOver (listing input) out)
-unfolding textAnswer bufferAfter
-always-listed input out h =
-    let none = never-21 input out h in
-    (ap (λ (n : ℕ). textAnswer n (listing input)) none, ap (λ (n : ℕ). bufferAfter n out (listing input)) none)
+never-21 input out h = not-refused out 0 (listing input) (omega (arith, listing-small input))

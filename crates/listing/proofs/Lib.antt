@@ -1,9 +1,8 @@
 pub mod Line
 pub mod Shortest
 pub mod Longest
-pub mod Along
-pub mod Listed
-pub mod Answers
 pub mod Writing
+pub mod Left
+pub mod Answers
 pub mod Cases
 pub mod Enough

@@ -5,12 +5,13 @@ use mathlib.Core.Path.{_≡_, refl, ap, _∙_}
 use mathlib.Core.Bool.{Bool, true, false, _||_}
 use mathlib.Core.List.{List, [], _∷_}
 use native.Mathlib.Omega.{arith}
-use lib.Dec.{leb, ltb}
+use lib.Dec.{leb, ltb, lit<}
 use lib.ListN.{length, drop, take, length-append, length-drop}
 use borrow.Author.Tests.{lt-ltb, leb-true, leb-false}
 use Rattle.answers.specs.Refusal.{_when_, first, _then_}
-use Rattle.record.specs.Record.{headerBytes, recordRefusal}
-use Rattle.reel.specs.Reel.{Found, accepted, finished, refused, headerWords, wordThree, restRefusal, stepAt, recordAt, nextPlace}
+use Rattle.header.specs.Format.{headerBytes}
+use Rattle.record.specs.Record.{recordRefusal}
+use Rattle.reel.specs.Reel.{Found, accepted, finished, refused, headerWords, wordsIn, restRefusal, stepAt, recordAt, nextPlace}
 use Rattle.reel.specs.Walk.{Walk, isRecord, onward, walkFrom, AllAccepted}
 use Rattle.reel.proofs.Place.{Told, told, moved, split, step-finished, step-found, found-refused}
 use Rattle.text.specs.Text.{refusedLine}
@@ -65,8 +66,8 @@ unfolding restRefusal
 rest-one rest h =
     (λ i.
     first
-    (1 when (lt-ltb (length rest) headerBytes h i || ltb (wordThree rest) headerWords) ∷ 2 when ltb (length rest) (2 * wordThree rest) ∷ [])
-    then recordRefusal (take (2 * wordThree rest) rest))
+    (1 when (lt-ltb (length rest) headerBytes h i || ltb (wordsIn rest) headerWords) ∷ 2 when ltb (length rest) (2 * wordsIn rest) ∷ [])
+    then recordRefusal (take (2 * wordsIn rest) rest))
 
 module _ (reel : List ℕ) (place : ℕ) where
   pub last-small : length (lastText (stepAt reel place)) ≤ 11
@@ -75,7 +76,7 @@ module _ (reel : List ℕ) (place : ℕ) where
       by-found : (f : Found) → Told reel place f → length (lastText f) ≤ 11
       by-found (accepted start end) t = omega arith
       by-found finished t = omega arith
-      by-found (refused n) t = refusedLine-length n (let h = t .2 in omega arith)
+      by-found (refused n) t = refusedLine-length 2 n (lit< tt) (let h = t .2 in omega arith)
 
   pub last-short : length reel < place + headerBytes → length (lastText (stepAt reel place)) ≤ length (refusedLine 1)
   last-short h = by-test (leb (length reel) place) refl

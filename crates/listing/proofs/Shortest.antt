@@ -10,7 +10,8 @@ use lib.ListN.{length}
 use Rattle.lists.proofs.Truth.{left, right}
 use Rattle.sample_rates.specs.declared.SampleRate.{SampleRate}
 use Rattle.sample_rates.specs.Rates.{rates, lineIn, sampleRateOf, rateHz, wordsA}
-use Rattle.header.specs.Header.{headerOf}
+use Rattle.fields.specs.Field.{valueOf}
+use Rattle.header.specs.Rows.{sampleRate}
 use Rattle.record.specs.Record.{recordRefusal}
 use Rattle.record.proofs.Accepted.{record-facts}
 use Rattle.listing.specs.Listing.{shortestRecord}
@@ -43,5 +44,5 @@ unfolding sampleRateOf
 record-long b e =
     let f = record-facts b e in
     let l = f .line in
-    let long = long-in rates (headerOf b .«sample_rate_hz») rates-long (l .positive) in
+    let long = long-in rates (valueOf sampleRate b) rates-long (l .positive) in
     ⊎-elim (λ p. omega (arith, p, f .words, l .shorter, l .longer, long)) (λ p. omega (arith, p, f .words, long)) (f .size)

@@ -1,28 +1,41 @@
--- What the lister writes, and what a call answers that writes text into a lent buffer. 01: "The lister", refusals 21 and 24. The
+-- What the lister writes, and what a call answers that writes text into a lent buffer. FORMAT, "The listing", "Refusal numbers". The
 -- lines themselves are in crate `text`, the walk along a reel in crate `reel`.
 use Prim.Native.Nat.{ℕ, _+_, _*_, _/_}
 use mathlib.Core.Bool.{cond}
 use mathlib.Core.List.{List, [], _∷_, _++_}
 use lib.Dec.{eqb, ltb}
 use lib.ListN.{length, drop}
-use Rattle.header.specs.Header.{headerOf}
 use Rattle.answers.specs.Answer.{Answer, unless}
-use Rattle.record.specs.FrequencyRate.{frequencyRateAnswer}
+use Rattle.answers.specs.Refusal.{_then_}
+use Rattle.fields.specs.Field.{valueOf}
+use Rattle.header.specs.Rows.{clockOrigin, recordNumber, readback}
+use Rattle.record.specs.FrequencyRate.{frequencyRateOf}
 use Rattle.record.specs.Record.{recordRefusal}
-use Rattle.answers.specs.Refusal.{_when_, first, _then_}
+use Rattle.times.specs.SampleTime.{sampleTime}
 use Rattle.reel.specs.Reel.{Found, accepted, finished, refused}
-use Rattle.reel.specs.Walk.{walk}
-use Rattle.text.specs.Text.{headerLine, recordLine, refusedLine}
-use Rattle.times.specs.SampleTime.{timeAnswer}
+use Rattle.reel.specs.Walk.{Walk, walk}
+use Rattle.text.specs.declared.Columns.{Columns}
+use Rattle.text.specs.Text.{headerLine, recordLine, refusedLine, lineOf}
+use Rattle.text.specs.Placed.{refusalAt}
 
--- 24: "lister's input longer than 65,536 bytes"
+-- 24: an input that is longer
 abbrev pub longestInput : ℕ
 longestInput = 65536
 
--- the line of a record: its number, the time of sample 0, clock origin, readback frequency and frequency rate
+-- the columns of a record: its number, the time of sample 0, clock origin, readback frequency and frequency rate
+abbrev pub columnsOf : List ℕ → Columns
+columnsOf b =
+    record {
+      number = valueOf recordNumber b;
+      «first_us» = sampleTime b 0;
+      origin = valueOf clockOrigin b;
+      «frequency_uhz» = valueOf readback b;
+      «frequency_rate_units» = frequencyRateOf b;
+    }
+
+-- its line
 unfoldable pub recordText : List ℕ → List ℕ
-recordText b =
-    recordLine (headerOf b .«record_number») (timeAnswer b 0 .value) (headerOf b .«clock_origin») (headerOf b .«readback_uhz») (frequencyRateAnswer b .value)
+recordText b = recordLine (columnsOf b)
 
 -- the lines of records, one behind the other
 unfoldable pub recordTexts : List (List ℕ) → List ℕ
@@ -35,11 +48,13 @@ lastText (accepted start end) = []
 lastText finished = []
 lastText (refused n) = refusedLine n
 
--- "The header line comes first"; "24 is judged before any record"; else the records of the walk, and the refusal that ends it
+-- the lines of a walk: those of its records, and that of the refusal that ends it
+abbrev pub walkText : Walk → List ℕ
+walkText w = recordTexts (w .records) ++ lastText (w .last)
+
+-- the header line comes first; 24 is judged before any record
 unfoldable pub listing : List ℕ → List ℕ
-listing input =
-    headerLine
-    ++ cond (ltb longestInput (length input)) (refusedLine 24) (recordTexts (walk input .records) ++ lastText (walk input .last))
+listing input = headerLine ++ cond (ltb longestInput (length input)) (refusedLine 24) (walkText (walk input))
 
 -- ## the longest listing
 
@@ -51,10 +66,10 @@ shortestRecord = 2 * 390
 abbrev pub mostRecords : ℕ
 mostRecords = longestInput / shortestRecord
 
--- the longest line of a record: a number of 5 digits, a time of 11 (86,399,999,000), the clock origin, a frequency of 8 digits, the
--- point and 6 places, a rate of a minus, 7 digits, the point and 5 places, and behind each of these a comma or the line feed
+-- the longest line of a record: a number of 5 digits, a time of 11 (86,399,999,000), the clock origin, 8 digits before the point of
+-- the frequency and 7 before that of the rate: 51 bytes
 abbrev pub longestLine : ℕ
-longestLine = (5 + 1) + (11 + 1) + (1 + 1) + (8 + 1 + 6 + 1) + (1 + 7 + 1 + 5 + 1)
+longestLine = lineOf 5 11 1 8 7
 
 -- the longest listing: the header line, that many longest lines and, for the 16 bytes then left, `refused,1`: 41 + 84 * 51 + 10 bytes
 abbrev pub longestListing : ℕ
@@ -62,9 +77,9 @@ longestListing = length headerLine + mostRecords * longestLine + length (refused
 
 -- ## the answers
 
--- 21: "text buffer holds fewer bytes than the text"
-unfoldable pub textRefusal : List ℕ → List ℕ → ℕ
-textRefusal out text = first (21 when ltb (length out) (length text) ∷ [])
+-- 21: the buffer holds fewer bytes than the text
+abbrev pub textRefusal : List ℕ → List ℕ → ℕ
+textRefusal out text = refusalAt out 0 text
 
 -- the answer of a call that writes a text: the text's length, or the refusal n
 unfoldable pub textAnswer : ℕ → List ℕ → Answer ℕ

@@ -1,4 +1,4 @@
--- The number and the value of 01 for each case of the code's answer.
+-- The number and the value for each case of the code's answer.
 use Prim.Native.Nat.{ℕ}
 use Rattle.answers.specs.Answer.{Answer, accepted, refused}
 use Rattle.listing.specs.declared.ListAnswer.{ListAnswer}

@@ -1,18 +1,17 @@
-// The listing of a reel as text in a lent buffer, and the line of one record. 01: "The lister", refusals 21 and 24. The walk is by
-// the reel reader, through crate `reader_calls`. The public functions take any bytes and any buffer; a refusal is 01's number.
+// The listing of a reel as text in a lent buffer, and the line of one record. FORMAT, "The listing", "Refusal numbers". The walk is by
+// the reel reader, and each record is judged once. The public functions take any bytes and any buffer; a refusal is a number.
 ghost use mathlib.Core.Path.{_≡_};
-ghost use Prim.Native.Nat.{_≤_};
 ghost use lib.ListN.{length};
+ghost use Rattle.text.specs.Placed.{shownText};
+ghost use Rattle.text.specs.Text.{refusedLine};
 ghost use Rattle.text.specs.Writing.{Room, Written};
-ghost use Rattle.record.specs.FrequencyRate.{frequencyRateAnswer};
-ghost use Rattle.reel.specs.Reel.{stepAt};
-ghost use Rattle.times.specs.SampleTime.{timeAnswer};
-ghost use Rattle.listing.specs.Listing.{recordText, listing, longestListing, textOver, lineAnswer, lineAfter, listAnswer, listAfter};
-ghost use Rattle.listing.specs.Steps.{columnsLine, stepLine, linesFrom, placeFrom, mostSteps, stepsFor, refusalOf, endRefusal, endLine};
+ghost use Rattle.reel.specs.Walk.{walk};
+ghost use Rattle.listing.specs.Listing.{columnsOf, recordText, walkText, listing, longestListing, textOver};
+ghost use Rattle.listing.specs.Listing.{lineAnswer, lineAfter, listAnswer, listAfter};
 ghost use Rattle.listing.specs.Shown.{shownList};
-use record::FrequencyRateAnswer;
 use reel::Step;
-use times::TimeAnswer;
+use text::Columns;
+use text::TextAnswer;
 
 // An input longer than this is refused by 24.
 pub const LONGEST_INPUT: usize = 65_536;
@@ -26,76 +25,89 @@ pub enum ListAnswer {
     Refused(u8),
 }
 
-// When the first sample was taken, 0 for bytes that are no record.
-fn first_us(bytes: &[u8]) -> u64
-    ensures { λ r. ⌜ r ≡ timeAnswer (now (bytes .entry)) 0 .value ⌝ }
-{
-    match times::sample_time(bytes, 0) {
-        TimeAnswer::Microseconds(us) => us,
-        TimeAnswer::Refused(_) => 0,
-    }
-}
-
-// The frequency rate, 0 for bytes that are no record.
-fn frequency_rate_units(bytes: &[u8]) -> i64
-    ensures { λ r. ⌜ r ≡ frequencyRateAnswer (now (bytes .entry)) .value ⌝ }
-{
-    match record::frequency_rate(bytes) {
-        FrequencyRateAnswer::Units(units) => units,
-        FrequencyRateAnswer::Refused(_) => 0,
-    }
-}
-
-// The columns of a record's line.
-struct Columns {
-    number: u64,
-    first_us: u64,
-    origin: u64,
-    frequency_uhz: u64,
-    frequency_rate_units: i64,
-}
-
+// The columns of the line of a record, read of any bytes.
 fn read_columns(bytes: &[u8]) -> Columns
-    ensures { λ r. ⌜ columnsLine r ≡ recordText (now (bytes .entry)) ⌝ }
+    ensures { λ r. ⌜ r ≡ columnsOf (now (bytes .entry)) ⌝ }
 {
-    let h = header::read_fields(bytes);
     Columns {
-        number: h.record_number,
-        first_us: first_us(bytes),
-        origin: h.clock_origin,
-        frequency_uhz: h.readback_uhz,
-        frequency_rate_units: frequency_rate_units(bytes),
+        number: fields::read_field(bytes, header::RECORD_NUMBER),
+        first_us: times::first_sample_time(bytes),
+        origin: fields::read_field(bytes, header::CLOCK_ORIGIN),
+        frequency_uhz: fields::read_field(bytes, header::READBACK),
+        frequency_rate_units: record::frequency_rate_of(bytes),
     }
 }
 
-fn text_length(bytes: &[u8]) -> usize
-    ensures { λ r. ⌜ r ≡ length (recordText (now (bytes .entry))) ⌝ }
-{
-    let columns = read_columns(bytes);
-    text::record_line_length(
-        columns.number,
-        columns.first_us,
-        columns.origin,
-        columns.frequency_uhz,
-        columns.frequency_rate_units,
-    )
-}
+// ## Lines, each written at a place of a buffer that has room for it; a writer returns the place behind its text.
 
-fn write_text(out: &mut [u8], at: usize, bytes: &[u8]) -> usize
+fn write_record(out: &mut [u8], at: usize, bytes: &[u8]) -> usize
     requires { ⌜ Room (now out) at (recordText (now bytes)) ⌝ }
     ensures { λ r. ⌜ Written (now (out .entry)) at (recordText (now (bytes .entry))) r (now (out .exit)) ⌝ }
 {
-    let columns = read_columns(bytes);
-    let put = text::put_record_line(
-        out,
-        at,
-        columns.number,
-        columns.first_us,
-        columns.origin,
-        columns.frequency_uhz,
-        columns.frequency_rate_units,
-    );
+    let put = text::put_record_line(out, at, read_columns(bytes));
     text::next_of(put)
+}
+
+fn write_refusal(out: &mut [u8], at: usize, refusal: u8) -> usize
+    requires { ⌜ Room (now out) at (refusedLine refusal) ⌝ }
+    ensures { λ r. ⌜ Written (now (out .entry)) at (refusedLine refusal) r (now (out .exit)) ⌝ }
+{
+    let put = text::put_refused_line(out, at, refusal as u64);
+    text::next_of(put)
+}
+
+// The lines of the records from place 0 on, and that of the refusal that ends them.
+fn write_walk(out: &mut [u8], at: usize, reel: &[u8]) -> usize
+    requires { ⌜ Room (now out) at (walkText (walk (now reel))) ⌝ }
+    ensures { λ r. ⌜ Written (now (out .entry)) at (walkText (walk (now (reel .entry)))) r (now (out .exit)) ⌝ }
+{
+    let mut next = at;
+    let mut place: usize = 0;
+    loop {
+        match reel::step_by_reader(reel, place) {
+            Step::Record { start, end } => {
+                next = write_record(out, next, &reel[start..end]);
+                place = end;
+            }
+            Step::Finished => return next,
+            Step::Refused(n) => return write_refusal(out, next, n),
+        }
+    }
+}
+
+// ## Public functions
+
+// The whole listing of the input, from the start of a buffer of the longest listing's length: nothing is refused; 24 is a line of it.
+pub fn list_whole(input: &[u8], out: &mut [u8; LONGEST_LISTING]) -> usize
+    ensures { λ r. ⌜ r ≡ length (listing (now (input .entry))) ⌝ }
+    ensures { λ _. ⌜ now (out .exit) ≡ textOver (listing (now (input .entry))) (now (out .entry)) ⌝ }
+    ensures { λ _. ⌜ length (now (out .entry)) ≡ longestListing ⌝ }
+{
+    let put = text::put_header_line(out, 0);
+    let at = text::next_of(put);
+    if input.len() > LONGEST_INPUT {
+        return write_refusal(out, at, 24);
+    }
+    write_walk(out, at, input)
+}
+
+fn list_answer(answer: TextAnswer) -> ListAnswer
+    ensures { λ r. ⌜ shownList r ≡ shownText answer ⌝ }
+{
+    match answer {
+        TextAnswer::Next(length) => ListAnswer::Length(length),
+        TextAnswer::Refused(n) => ListAnswer::Refused(n),
+    }
+}
+
+// The whole listing of the input, from the start of the buffer.
+pub fn list_reel(input: &[u8], out: &mut [u8]) -> ListAnswer
+    ensures { λ r. ⌜ shownList r ≡ listAnswer (now (input .entry)) (now (out .entry)) ⌝ }
+    ensures { λ _. ⌜ now (out .exit) ≡ listAfter (now (input .entry)) (now (out .entry)) ⌝ }
+{
+    let mut whole = [0u8; LONGEST_LISTING];
+    let length = list_whole(input, &mut whole);
+    list_answer(text::put_text(out, 0, &whole[..length]))
 }
 
 // The line of one record, from the start of the buffer.
@@ -107,155 +119,5 @@ pub fn record_line(bytes: &[u8], out: &mut [u8]) -> ListAnswer
     if refusal != 0 {
         return ListAnswer::Refused(refusal);
     }
-    let length = text_length(bytes);
-    if out.len() < length {
-        return ListAnswer::Refused(21);
-    }
-    write_text(out, 0, bytes);
-    ListAnswer::Length(length)
-}
-
-// The length of a step's line: of nothing, where no record stands.
-fn line_length(bytes: &[u8]) -> usize
-    ensures { λ r. ⌜ r ≡ length (stepLine (now (bytes .entry))) ⌝ }
-{
-    if bytes.len() == 0 {
-        return 0;
-    }
-    text_length(bytes)
-}
-
-fn write_line(out: &mut [u8], at: usize, bytes: &[u8]) -> usize
-    requires { ⌜ Room (now out) at (stepLine (now bytes)) ⌝ }
-    ensures { λ r. ⌜ Written (now (out .entry)) at (stepLine (now (bytes .entry))) r (now (out .exit)) ⌝ }
-{
-    if bytes.len() == 0 {
-        return at;
-    }
-    write_text(out, at, bytes)
-}
-
-// No step where the input is too long, else one for every 80 bytes.
-fn steps_for(length: usize) -> usize
-    ensures { λ r. ⌜ r ≡ stepsFor length ⌝ }
-{
-    if length > LONGEST_INPUT {
-        return 0;
-    }
-    length / record::HEADER_BYTES
-}
-
-// How long the lines of the steps are, and the place reached.
-struct Reached {
-    length: usize,
-    place: usize,
-}
-
-fn count_lines(reel: &[u8], steps: usize) -> Reached
-    requires { ⌜ steps ≤ mostSteps ⌝ }
-    ensures { λ r. ⌜ (r .length ≡ length (linesFrom (now (reel .entry)) steps 0)) × (r .place ≡ placeFrom (now (reel .entry)) steps 0) ⌝ }
-{
-    let mut length: usize = 0;
-    let mut place: usize = 0;
-    let mut to_count = steps;
-    while to_count > 0 {
-        length += line_length(reader_calls::record(reel, place));
-        place = reader_calls::next(reel, place);
-        to_count -= 1;
-    }
-    Reached { length, place }
-}
-
-fn write_lines(out: &mut [u8], at: usize, reel: &[u8], steps: usize) -> usize
-    requires { ⌜ Room (now out) at (linesFrom (now reel) steps 0) ⌝ }
-    ensures { λ r. ⌜ Written (now (out .entry)) at (linesFrom (now (reel .entry)) steps 0) r (now (out .exit)) ⌝ }
-{
-    let mut next = at;
-    let mut place: usize = 0;
-    let mut to_write = steps;
-    while to_write > 0 {
-        next = write_line(out, next, reader_calls::record(reel, place));
-        place = reader_calls::next(reel, place);
-        to_write -= 1;
-    }
-    next
-}
-
-// The refusal at a place, or 0.
-fn refusal_at(reel: &[u8], place: usize) -> u8
-    ensures { λ r. ⌜ r ≡ refusalOf (stepAt (now (reel .entry)) place) ⌝ }
-{
-    match reader_calls::peek(reel, place) {
-        Step::Record { start: _, end: _ } => 0,
-        Step::Finished => 0,
-        Step::Refused(n) => n,
-    }
-}
-
-// The refusal that ends the listing, or 0.
-fn end_refusal(input: &[u8], place: usize) -> u8
-    ensures { λ r. ⌜ r ≡ endRefusal (now (input .entry)) place ⌝ }
-{
-    if input.len() > LONGEST_INPUT {
-        return 24;
-    }
-    refusal_at(input, place)
-}
-
-fn end_line_length(refusal: u8) -> usize
-    ensures { λ r. ⌜ r ≡ length (endLine refusal) ⌝ }
-{
-    if refusal == 0 {
-        return 0;
-    }
-    text::refused_line_length(refusal as u64)
-}
-
-fn write_end_line(out: &mut [u8], at: usize, refusal: u8) -> usize
-    requires { ⌜ Room (now out) at (endLine refusal) ⌝ }
-    ensures { λ r. ⌜ Written (now (out .entry)) at (endLine refusal) r (now (out .exit)) ⌝ }
-{
-    if refusal == 0 {
-        return at;
-    }
-    let put = text::put_refused_line(out, at, refusal as u64);
-    text::next_of(put)
-}
-
-// The whole listing of the input, from the start of the buffer; 24 is a line of it.
-pub fn list_reel(input: &[u8], out: &mut [u8]) -> ListAnswer
-    ensures { λ r. ⌜ shownList r ≡ listAnswer (now (input .entry)) (now (out .entry)) ⌝ }
-    ensures { λ _. ⌜ now (out .exit) ≡ listAfter (now (input .entry)) (now (out .entry)) ⌝ }
-{
-    let steps = steps_for(input.len());
-    let reached = count_lines(input, steps);
-    let refusal = end_refusal(input, reached.place);
-    let header = text::header_line_length();
-    let count = header + reached.length + end_line_length(refusal);
-    if out.len() < count {
-        return ListAnswer::Refused(21);
-    }
-    text::put_header_line(out, 0);
-    let end = write_lines(out, header, input, steps);
-    write_end_line(out, end, refusal);
-    ListAnswer::Length(count)
-}
-
-// The length that was answered, 0 beside a refusal.
-fn length_of(answer: ListAnswer) -> usize
-    ensures { λ r. ⌜ r ≡ shownList answer .value ⌝ }
-{
-    match answer {
-        ListAnswer::Length(n) => n,
-        ListAnswer::Refused(_) => 0,
-    }
-}
-
-// The whole listing of the input, from the start of a buffer of the longest listing's length: nothing is refused.
-pub fn list_whole(input: &[u8], out: &mut [u8; LONGEST_LISTING]) -> usize
-    ensures { λ r. ⌜ r ≡ length (listing (now (input .entry))) ⌝ }
-    ensures { λ _. ⌜ now (out .exit) ≡ textOver (listing (now (input .entry))) (now (out .entry)) ⌝ }
-    ensures { λ _. ⌜ length (now (out .entry)) ≡ longestListing ⌝ }
-{
-    length_of(list_reel(input, out))
+    list_answer(text::put_record_line(out, 0, read_columns(bytes)))
 }

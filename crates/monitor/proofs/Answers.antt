@@ -44,7 +44,8 @@ module _ (this earlier : List ℕ) (row : ℕ) where
         pub new-in-this : isNew this row ≡ true → accepted (segmentBytes this row) ≡ rowAnswer this earlier row
         new-in-this new = sym (λ i. answerBy (p i) (q i) (is-row i) (new i) (isNew earlier row))
 
-        pub new-in-earlier : isNew this row ≡ false → isNew earlier row ≡ true → accepted (segmentBytes earlier row) ≡ rowAnswer this earlier row
+        pub new-in-earlier : isNew this row ≡ false → isNew earlier row ≡ true
+            → accepted (segmentBytes earlier row) ≡ rowAnswer this earlier row
         new-in-earlier new old = sym (λ i. answerBy (p i) (q i) (is-row i) (new i) (old i))
 
         pub new-in-neither : isNew this row ≡ false → isNew earlier row ≡ false → refused [] 23 ≡ rowAnswer this earlier row

@@ -1,5 +1,5 @@
--- `segment` bears no number; `segment_refusal`, asked the same, does. The two are one answer: there are bytes exactly where nothing is
--- refused, and never more than 90 of them. Assumes nothing.
+-- `segment` bears no number; `segment_refusal`, asked the same, does. The two are one answer: there are bytes exactly where
+-- nothing is refused, and never more than 90 of them. Assumes nothing.
 use Prim.Native.Nat.{ℕ, _*_, _≤_, _<_}
 use mathlib.Core.Path.{_≡_, refl}
 use mathlib.Core.Bool.{Bool, true, false, cond, not, _&&_}

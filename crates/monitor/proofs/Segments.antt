@@ -21,7 +21,8 @@ module _ (ss : List SegmentWords) (number k : ℕ) (h : k < length ss) where
   rest : drop k ss ≡ getD ss k noSegment ∷ drop (k + 1) ss
   rest = drop-cons ss k noSegment h ∙ ap (λ (n : ℕ). getD ss k noSegment ∷ drop n ss) (sym (add-one k))
 
-  step : (b : Bool) → eqb (segmentNumber (getD ss k noSegment)) number ≡ b → rowIn (drop k ss) number ≡ cond b 0 (1 + rowIn (drop (k + 1) ss) number)
+  step : (b : Bool) → eqb (segmentNumber (getD ss k noSegment)) number ≡ b
+      → rowIn (drop k ss) number ≡ cond b 0 (1 + rowIn (drop (k + 1) ss) number)
   unfolding rowIn
   step b e = ap (λ (l : List SegmentWords). rowIn l number) rest ∙ ap (λ (t : Bool). cond t 0 (1 + rowIn (drop (k + 1) ss) number)) e
 
@@ -47,7 +48,8 @@ of-test before s t =
       few = leb→le _ _ (each (wordTests before s) 3 t);
     }
 
-in-rows : (before : ℕ) (ss : List SegmentWords) (row : ℕ) → row < length ss → T (soundAfter before ss) → SoundWords (getD ss row noSegment)
+in-rows : (before : ℕ) (ss : List SegmentWords) (row : ℕ) → row < length ss → T (soundAfter before ss)
+    → SoundWords (getD ss row noSegment)
 in-rows before [] row h t = absurd (not-suc-le-zero h)
 in-rows before (s ∷ ss) zero h t = of-test before s (left (all (wordTests before s)) (soundAfter (lastWord s) ss) t)
 in-rows before (s ∷ ss) (suc row) h t = in-rows (lastWord s) ss row (le-of-suc-le-suc h) (right (all (wordTests before s)) (soundAfter (lastWord s) ss) t)

@@ -74,8 +74,8 @@ pub record SoundWords (s : SegmentWords) : Type 0 where
   pub end : lastWord s ≤ monitorWords
   pub few : wordCount s ≤ mostWords
 
--- the one test of the table: each segment starts after the last word of the row before, has a word but no more than 45, and ends by
--- word 150
+-- the one test of the table: each segment starts after the last word of the row before, has a word but no more than the most, and
+-- ends by the last monitor word
 abbrev pub wordTests : ℕ → SegmentWords → List Bool
 wordTests before s =
     ltb before (firstWord s) ∷ leb (firstWord s) (lastWord s) ∷ leb (lastWord s) monitorWords ∷ leb (wordCount s) mostWords ∷ []

@@ -39,7 +39,7 @@ enum Place {
     Refused(u8),
 }
 
-// A row of the table; its words are among the 150.
+// A row of the table; its words are among the monitor words.
 fn words_of(row: usize) -> SegmentWords
     requires { ⌜ row < segmentCount ⌝ }
     ensures { λ r. ⌜ (r ≡ segmentAt row) × SoundWords r ⌝ }
@@ -62,7 +62,7 @@ fn segment_row(number: u64) -> usize
     row
 }
 
-// The last word of the samples of an accepted record; the 150 monitor words after it lie in the record.
+// The last word of the samples of an accepted record; the monitor words after it lie in the record.
 fn last_sample_word(bytes: &[u8]) -> usize
     requires { ⌜ recordRefusal (now bytes) ≡ 0 ⌝ }
     ensures { λ r. ⌜ (r ≡ lastSampleWordOf (now (bytes .entry))) × (2 * r ≤ headerBytes + 4 * mostSamples) × (2 * (r + monitorWords) ≤ length (now (bytes .entry))) ⌝ }

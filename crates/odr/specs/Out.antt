@@ -1,39 +1,29 @@
--- What comes back across the boundary to C and Rust (c/odr.h), by what a call answers. 01: "Beside a refusal's number any other part of
--- an answer is 0 or empty".
+-- What comes back across the boundary to C and Rust (c/odr.h), beside what a call answers. FORMAT, "Refusal numbers".
 use Prim.Native.Nat.{ℕ}
 use mathlib.Core.Path.{_≡_}
-use mathlib.Core.Bool.{false, cond}
+use mathlib.Core.Bool.{cond}
 use mathlib.Core.List.{List}
-use lib.IntN.{pos}
-use lib.Ieee.{Float, fin}
+use lib.Ieee.{Float}
 use lib.ListN.{length, getD}
 use Rattle.lists.specs.Fill.{tab}
 use Rattle.answers.specs.Answer.{Answer}
 use Rattle.reel.specs.Reel.{Found, accepted, finished, refused}
-use Rattle.odr.specs.declared.PhasesOut.{PhasesOut}
+use Rattle.c_answers.specs.declared.PhasesOut.{PhasesOut}
+use Rattle.c_answers.specs.declared.StepOut.{StepOut}
+use Rattle.c_answers.specs.Out.{zeroFloat, finishedNumber, longestSegment}
 use Rattle.odr.specs.declared.SegmentOut.{SegmentOut}
-use Rattle.listing.specs.declared.ListAnswer.{ListAnswer}
-use Rattle.listing.specs.declared.ListAnswer.the-variants as ListAnswer
-use Rattle.odr.specs.declared.StepOut.{StepOut}
-use Rattle.odr.specs.declared.TextOut.{TextOut}
 
 -- what lent memory for one value holds after an answer: the value, or what it held beside a refusal
 abbrev pub valueOr : {A : Type 0} → A → Answer A → A
 valueOr old a = cond (a .given) (a .value) old
 
 -- two phases; 0 beside a refusal
-abbrev pub zeroFloat : Float
-zeroFloat = fin false 0 (pos 0)
-
 pub record PhasesTold (r : PhasesOut) (a : Answer (List Float)) : Type 0 where
   pub number : r .refusal ≡ a .number
   pub first : r .first ≡ getD (a .value) 0 zeroFloat
   pub second : r .second ≡ getD (a .value) 1 zeroFloat
 
--- a segment's bytes and their number, none beside a refusal; 0 fills what is left of 90 bytes. No segment is longer (proofs/Segment)
-abbrev pub longestSegment : ℕ
-longestSegment = 90
-
+-- a segment's bytes and their number, none beside a refusal; 0 fills what is left
 pub record SegmentTold (r : SegmentOut) (a : Answer (List ℕ)) : Type 0 where
   pub number : r .refusal ≡ a .number
   pub size : r .length ≡ length (a .value)
@@ -42,7 +32,7 @@ pub record SegmentTold (r : SegmentOut) (a : Answer (List ℕ)) : Type 0 where
 -- what stands at a place of a reel: a record's start and end, 255 at the end of the reel, or the refusal
 abbrev pub stepNumber : Found → ℕ
 stepNumber (accepted start end) = 0
-stepNumber finished = 255
+stepNumber finished = finishedNumber
 stepNumber (refused n) = n
 
 abbrev pub stepStart : Found → ℕ
@@ -59,8 +49,3 @@ pub record StepTold (r : StepOut) (f : Found) : Type 0 where
   pub number : r .answer ≡ stepNumber f
   pub start : r .start ≡ stepStart f
   pub end : r .end ≡ stepEnd f
-
--- a text's length, or the refusal
-abbrev pub textOut : ListAnswer → TextOut
-textOut (ListAnswer.Length n) = record { refusal = 0; length = n }
-textOut (ListAnswer.Refused n) = record { refusal = n; length = 0 }

@@ -1,11 +1,10 @@
 // The library for C and Rust, as c/odr.h declares it. Each call takes any input and answers as the call that it hands on to. Numbers
 // come back in structs by value, and what opening returned goes in by value, so no buffer of numbers can be too short; beside a
-// refusal every other member is 0.
+// refusal every other member is 0 (crate `c_answers`).
 ghost use mathlib.Core.Path.{_≡_};
-ghost use lib.ListN.{length, getD};
-ghost use Rattle.lists.specs.Fill.{tab};
-ghost use Rattle.header.specs.Header.{named};
+ghost use lib.ListN.{length};
 ghost use Rattle.answers.specs.Answer.{told};
+ghost use Rattle.sample_rates.specs.Answer.{rateLineOut};
 ghost use Rattle.record.specs.Record.{recordRefusal, headerAnswer, writeRefusal, afterWriting};
 ghost use Rattle.record.specs.FrequencyRate.{frequencyRateAnswer};
 ghost use Rattle.samples.specs.InOut.{samplesRefusal, channelAfter, recordAfter};
@@ -21,45 +20,21 @@ ghost use Rattle.index_query.specs.Shown.{shownSecond};
 ghost use Rattle.index_means.specs.Means.{meansAnswer};
 ghost use Rattle.index_means.specs.Shown.{shownMeans};
 ghost use Rattle.listing.specs.Listing.{lineAnswer, lineAfter, listAnswer, listAfter};
-ghost use Rattle.odr.specs.Out.{valueOr, longestSegment, PhasesTold, SegmentTold, StepTold, textOut};
+ghost use Rattle.odr.specs.Out.{valueOr, PhasesTold, SegmentTold, StepTold};
+use c_answers::ConsistencyOut;
+use c_answers::FrequencyRateOut;
+use c_answers::LONGEST_SEGMENT;
+use c_answers::OpenOut;
+use c_answers::PhasesOut;
+use c_answers::StepOut;
+use c_answers::TextOut;
+use c_answers::TimeOut;
+use header::FIELD_COUNT;
 use index_means::MeansAnswer;
 use index_model::Opening;
-use index_open::OpenAnswer;
-use index_query::ConsistencyAnswer;
 use index_query::SecondAnswer;
-use listing::ListAnswer;
-use record::FrequencyRateAnswer;
-use reel::Step;
+use sample_rates::RateLineAnswer;
 use samples::TotalsAnswer;
-use times::PhaseAnswer;
-use times::TimeAnswer;
-
-// What `odr_step` answers at the end of a reel: no refusal of 01 has this number.
-const FINISHED: u8 = 255;
-
-// Bytes of the longest monitor segment, 45 words.
-const LONGEST_SEGMENT: usize = 90;
-
-// ## What comes back
-
-#[repr(C)]
-pub struct FrequencyRateOut {
-    pub refusal: u8,
-    pub units: i64,
-}
-
-#[repr(C)]
-pub struct TimeOut {
-    pub refusal: u8,
-    pub microseconds: u64,
-}
-
-#[repr(C)]
-pub struct PhasesOut {
-    pub refusal: u8,
-    pub first: f64,
-    pub second: f64,
-}
 
 // The segment's bytes are the first `length` ones; 0 follows.
 #[repr(C)]
@@ -69,34 +44,9 @@ pub struct SegmentOut {
     pub bytes: [u8; LONGEST_SEGMENT],
 }
 
-// A record from `start` up to `end`; or the end of the reel, 255; or a refusal.
-#[repr(C)]
-pub struct StepOut {
-    pub answer: u8,
-    pub start: usize,
-    pub end: usize,
-}
-
-#[repr(C)]
-pub struct OpenOut {
-    pub refusal: u8,
-    pub opening: Opening,
-}
-
-#[repr(C)]
-pub struct ConsistencyOut {
-    pub refusal: u8,
-    pub consistent: bool,
-}
-
-#[repr(C)]
-pub struct TextOut {
-    pub refusal: u8,
-    pub length: usize,
-}
-
 // ## Records
 
+// The refusal of the bytes as a record, 1 to 11; 0 where they are accepted.
 #[no_mangle]
 pub extern "C" fn odr_refusal(bytes: &[u8]) -> u8
     ensures { λ r. ⌜ r ≡ recordRefusal (now (bytes .entry)) ⌝ }
@@ -104,72 +54,63 @@ pub extern "C" fn odr_refusal(bytes: &[u8]) -> u8
     record::refusal_of(bytes)
 }
 
-// The values as they are read, not by way of a `Header`, which would be copied twice.
+// What follows from a sample rate: the samples a channel has in a record, the records of a second, the microseconds from a sample to
+// the next. 5 for a number that is no rate.
 #[no_mangle]
-pub extern "C" fn odr_read_header(bytes: &[u8], values: &mut [u64; 46]) -> u8
+pub extern "C" fn odr_sample_rate(hz: u64) -> RateLineAnswer
+    ensures { λ r. ⌜ r ≡ rateLineOut hz ⌝ }
+{
+    sample_rates::rate_line(hz)
+}
+
+// The values of a record's header, into the array lent. They go there as they are read: an answer by value would copy them again.
+#[no_mangle]
+pub extern "C" fn odr_read_header(bytes: &[u8], values: &mut [u64; FIELD_COUNT]) -> u8
     ensures { λ r. ⌜ r ≡ headerAnswer (now (bytes .entry)) .number ⌝ }
     ensures { λ _. ⌜ now (values .exit) ≡ valueOr (now (values .entry)) (headerAnswer (now (bytes .entry))) ⌝ }
 {
-    let n = record::refusal_of(bytes);
-    if n != 0 {
-        return n;
+    let refusal = record::refusal_of(bytes);
+    if refusal != 0 {
+        return refusal;
     }
     *values = header::read_values(bytes);
     0
 }
 
+// The values go into the header of the record; every other bit stays.
 #[no_mangle]
-pub extern "C" fn odr_write_header(bytes: &mut [u8], values: &[u64; 46]) -> u8
-    ensures { λ r. ⌜ r ≡ writeRefusal (length (now (bytes .entry))) (named (now (values .entry))) ⌝ }
-    ensures { λ _. ⌜ now (bytes .exit) ≡ afterWriting (now (bytes .entry)) (named (now (values .entry))) ⌝ }
+pub extern "C" fn odr_write_header(bytes: &mut [u8], values: &[u64; FIELD_COUNT]) -> u8
+    ensures { λ r. ⌜ r ≡ writeRefusal (length (now (bytes .entry))) (now (values .entry)) ⌝ }
+    ensures { λ _. ⌜ now (bytes .exit) ≡ afterWriting (now (bytes .entry)) (now (values .entry)) ⌝ }
 {
-    record::write_header(bytes, header::named(*values))
+    record::write_header(bytes, *values)
 }
 
+// The frequency rate of a record, in units of 0.00001 Hz/s.
 #[no_mangle]
 pub extern "C" fn odr_frequency_rate(bytes: &[u8]) -> FrequencyRateOut
     ensures { λ r. ⌜ told (r .refusal) (r .units) ≡ frequencyRateAnswer (now (bytes .entry)) ⌝ }
 {
-    match record::frequency_rate(bytes) {
-        FrequencyRateAnswer::Units(units) => FrequencyRateOut { refusal: 0, units },
-        FrequencyRateAnswer::Refused(refusal) => FrequencyRateOut { refusal, units: 0 },
-    }
+    c_answers::frequency_rate_out(record::frequency_rate(bytes))
 }
 
+// The time of sample k of a record, in microseconds of the day.
 #[no_mangle]
 pub extern "C" fn odr_sample_time(bytes: &[u8], k: u64) -> TimeOut
     ensures { λ r. ⌜ told (r .refusal) (r .microseconds) ≡ timeAnswer (now (bytes .entry)) k ⌝ }
 {
-    match times::sample_time(bytes, k) {
-        TimeAnswer::Microseconds(microseconds) => TimeOut {
-            refusal: 0,
-            microseconds,
-        },
-        TimeAnswer::Refused(refusal) => TimeOut {
-            refusal,
-            microseconds: 0,
-        },
-    }
+    c_answers::time_out(times::sample_time(bytes, k))
 }
 
+// The two phases of a record, in cycles.
 #[no_mangle]
 pub extern "C" fn odr_phases(bytes: &[u8]) -> PhasesOut
     ensures { λ r. ⌜ PhasesTold r (phaseAnswer (now (bytes .entry))) ⌝ }
 {
-    match times::phases(bytes) {
-        PhaseAnswer::Cycles { first, second } => PhasesOut {
-            refusal: 0,
-            first,
-            second,
-        },
-        PhaseAnswer::Refused(refusal) => PhasesOut {
-            refusal,
-            first: 0.0,
-            second: 0.0,
-        },
-    }
+    c_answers::phases_out(times::phases(bytes))
 }
 
+// The samples of a record, out to the buffers of channels 1 to 4.
 #[no_mangle]
 pub extern "C" fn odr_read_samples(
     bytes: &[u8],
@@ -187,6 +128,7 @@ pub extern "C" fn odr_read_samples(
     samples::read_samples(bytes, one, two, three, four)
 }
 
+// The samples of channels 1 to 4, into the sample stretch of a record.
 #[no_mangle]
 pub extern "C" fn odr_write_samples(
     bytes: &mut [u8],
@@ -201,6 +143,7 @@ pub extern "C" fn odr_write_samples(
     samples::write_samples(bytes, one, two, three, four)
 }
 
+// The totals of a record's samples, for each channel.
 #[no_mangle]
 pub extern "C" fn odr_totals(bytes: &[u8]) -> TotalsAnswer
     ensures { λ r. ⌜ shownTotals r ≡ totalsAnswer (now (bytes .entry)) ⌝ }
@@ -208,29 +151,7 @@ pub extern "C" fn odr_totals(bytes: &[u8]) -> TotalsAnswer
     samples::record_totals(bytes)
 }
 
-// The byte at a place, 0 past the end.
-fn byte_at(bytes: &[u8], k: usize) -> u8
-    ensures { λ r. ⌜ r ≡ getD (now (bytes .entry)) k 0 ⌝ }
-{
-    if k < bytes.len() {
-        return bytes[k];
-    }
-    0
-}
-
-// The bytes of a segment, and then 0.
-fn copied(bytes: &[u8]) -> [u8; LONGEST_SEGMENT]
-    ensures { λ r. ⌜ r ≡ tab (λ k. getD (now (bytes .entry)) k 0) 0 longestSegment ⌝ }
-{
-    let mut copy = [0u8; LONGEST_SEGMENT];
-    let mut k: usize = 0;
-    while k < LONGEST_SEGMENT {
-        copy[k] = byte_at(bytes, k);
-        k += 1;
-    }
-    copy
-}
-
+// The bytes of a monitor segment, from this record or from the earlier one.
 #[no_mangle]
 pub extern "C" fn odr_segment<'a>(
     this_record: &'a [u8],
@@ -240,7 +161,7 @@ pub extern "C" fn odr_segment<'a>(
     ensures { λ r. ⌜ SegmentTold r (segmentAnswer (now («this_record» .entry)) (now (earlier .entry)) number) ⌝ }
 {
     let segment = monitor::segment(this_record, earlier, number);
-    let bytes = copied(segment);
+    let bytes = c_answers::segment_bytes(segment);
     SegmentOut {
         refusal: monitor::segment_refusal(this_record, earlier, number),
         length: segment.len(),
@@ -250,44 +171,17 @@ pub extern "C" fn odr_segment<'a>(
 
 // ## Reels
 
+// What stands at a place of a reel: a record's start and end, 255 at the end of the reel, or the refusal.
 #[no_mangle]
 pub extern "C" fn odr_step(reel: &[u8], place: usize) -> StepOut
     ensures { λ r. ⌜ StepTold r (stepAt (now (reel .entry)) place) ⌝ }
 {
-    match reader_calls::peek(reel, place) {
-        Step::Record { start, end } => StepOut {
-            answer: 0,
-            start,
-            end,
-        },
-        Step::Finished => StepOut {
-            answer: FINISHED,
-            start: 0,
-            end: 0,
-        },
-        Step::Refused(answer) => StepOut {
-            answer,
-            start: 0,
-            end: 0,
-        },
-    }
+    c_answers::step_out(reel::step_by_reader(reel, place))
 }
 
 // ## The index of seconds
 
-// Beside a refusal: 0 throughout.
-const NO_OPENING: Opening = Opening {
-    first_second: 0,
-    second_count: 0,
-    highest_number: 0,
-    sample_rate_hz: 0,
-    tape_number: 0,
-    year: 0,
-    day: 0,
-    spacecraft: 0,
-    spc: 0,
-};
-
+// Opens an index by a pattern record: the cells of R rows and of C seconds become 0.
 #[no_mangle]
 pub extern "C" fn odr_open(
     pattern: &[u8],
@@ -301,25 +195,17 @@ pub extern "C" fn odr_open(
     ensures { λ _. ⌜ now (rows .exit) ≡ opened (now (pattern .entry)) «first_second» «second_count» «highest_number» (lent (now (rows .entry)) (now (seconds .entry))) .rows ⌝ }
     ensures { λ _. ⌜ now (seconds .exit) ≡ opened (now (pattern .entry)) «first_second» «second_count» «highest_number» (lent (now (rows .entry)) (now (seconds .entry))) .seconds ⌝ }
 {
-    match index_open::open(
+    c_answers::open_out(index_open::open(
         pattern,
         first_second,
         second_count,
         highest_number,
         rows,
         seconds,
-    ) {
-        OpenAnswer::Opened(opening) => OpenOut {
-            refusal: 0,
-            opening,
-        },
-        OpenAnswer::Refused(refusal) => OpenOut {
-            refusal,
-            opening: NO_OPENING,
-        },
-    }
+    ))
 }
 
+// Inserts a record under its number, in place of any there.
 #[no_mangle]
 pub extern "C" fn odr_insert(
     opening: Opening,
@@ -334,6 +220,7 @@ pub extern "C" fn odr_insert(
     index_update::insert(opening, bytes, rows, seconds)
 }
 
+// Removes the record of a number.
 #[no_mangle]
 pub extern "C" fn odr_remove(
     opening: Opening,
@@ -348,6 +235,7 @@ pub extern "C" fn odr_remove(
     index_update::remove(opening, number, rows, seconds)
 }
 
+// The totals and the verdict of a second.
 #[no_mangle]
 pub extern "C" fn odr_query(
     opening: Opening,
@@ -360,6 +248,7 @@ pub extern "C" fn odr_query(
     index_query::query(opening, second, rows, seconds)
 }
 
+// The mean and the mean square of each channel of a second.
 #[no_mangle]
 pub extern "C" fn odr_second_means(
     opening: Opening,
@@ -372,6 +261,7 @@ pub extern "C" fn odr_second_means(
     index_means::second_means(opening, second, rows, seconds)
 }
 
+// Whether the cells are those that the rows give, and no row lies outside the window.
 #[no_mangle]
 pub extern "C" fn odr_is_consistent(
     opening: Opening,
@@ -380,42 +270,25 @@ pub extern "C" fn odr_is_consistent(
 ) -> ConsistencyOut
     ensures { λ r. ⌜ told (r .refusal) (r .consistent) ≡ consistencyAnswer opening (lent (now (rows .entry)) (now (seconds .entry))) ⌝ }
 {
-    match index_query::is_consistent(opening, rows, seconds) {
-        ConsistencyAnswer::Consistent(consistent) => ConsistencyOut {
-            refusal: 0,
-            consistent,
-        },
-        ConsistencyAnswer::Refused(refusal) => ConsistencyOut {
-            refusal,
-            consistent: false,
-        },
-    }
+    c_answers::consistency_out(index_query::is_consistent(opening, rows, seconds))
 }
 
 // ## Text
 
-// The length of a text that was written, or the refusal.
-fn text_out(answer: ListAnswer) -> TextOut
-    ensures { λ r. ⌜ r ≡ textOut answer ⌝ }
-{
-    match answer {
-        ListAnswer::Length(length) => TextOut { refusal: 0, length },
-        ListAnswer::Refused(refusal) => TextOut { refusal, length: 0 },
-    }
-}
-
+// The line of one record, into the buffer lent.
 #[no_mangle]
 pub extern "C" fn odr_record_line(bytes: &[u8], text: &mut [u8]) -> TextOut
     ensures { λ r. ⌜ told (r .refusal) (r .length) ≡ lineAnswer (now (bytes .entry)) (now (text .entry)) ⌝ }
     ensures { λ _. ⌜ now (text .exit) ≡ lineAfter (now (bytes .entry)) (now (text .entry)) ⌝ }
 {
-    text_out(listing::record_line(bytes, text))
+    c_answers::text_out(listing::record_line(bytes, text))
 }
 
+// The listing of a reel, into the buffer lent.
 #[no_mangle]
 pub extern "C" fn odr_list(input: &[u8], text: &mut [u8]) -> TextOut
     ensures { λ r. ⌜ told (r .refusal) (r .length) ≡ listAnswer (now (input .entry)) (now (text .entry)) ⌝ }
     ensures { λ _. ⌜ now (text .exit) ≡ listAfter (now (input .entry)) (now (text .entry)) ⌝ }
 {
-    text_out(listing::list_reel(input, text))
+    c_answers::text_out(listing::list_reel(input, text))
 }

@@ -1,5 +1,5 @@
--- What a reader owns, for the walks of its methods. It is Copy, so what it owns is had twice: one copy is kept whole for the exit,
--- and of the other the reel goes, beside the place, to a function over a slice and a number. Assumes nothing.
+-- What a reader owns, for the walks: it is taken apart into its reel and its place, and made of them. A reader and a `&[u8]` are
+-- Copy, so what they own is had twice: one copy is kept whole for the exit, and the other goes to the callee. Assumes nothing.
 use mathlib.Core.Path.{_≡_, refl}
 use Prim.Native.Nat.{_<_, _^_}
 use mathlib.Core.List.{List, [], _∷_}
@@ -19,11 +19,11 @@ use denote.Laws.{Is}
 use denote.Plain.{uint-makes}
 use denote.Builtin.{u8, usize}
 use denote.Signature.{namedLft}
-use denote.Slice.{sliceVal, ShrSlice}
+use denote.Slice.{sliceVal, ShrSlice, shr-slice-copy}
 use denote.Steps.{owned, nothing}
 use denote.Struct.Declared.{Declared}
 use denote.Struct.Laws as LL
-use denote.Struct.Rest.{all-own, ownAt, rest, own-open, own-out}
+use denote.Struct.Rest.{all-own, ownAt, rest, own-open, own-out, own-shut}
 use denote.Struct.Values.{Values}
 use Rattle.reel.specs.declared.Reader.{Reader}
 use Rattle.reel.proofs.Reader as T
@@ -47,13 +47,19 @@ mach d = T′.lowered d
 abbrev pub vd : (κs : Lfts 1) → Reader → Values (D κs .parts)
 vd κs d = (d .reel, (d .place, tt))
 
--- what a function over the reel and the place is passed
-abbrev pub passed : Reader → List Val × (List Val × Unit {0})
-passed d = (sliceVal (d .reel .ptr) (length (d .reel .now)) ∷ [], (vint w64 (d .place) ∷ [], tt))
+-- the reel's machine value, and what a function over the reel and the place is passed
+abbrev pub reel-value : Reader → Val
+reel-value d = sliceVal (d .reel .ptr) (length (d .reel .now))
 
--- what a reader owns
+abbrev pub passed : Reader → List Val × (List Val × Unit {0})
+passed d = (reel-value d ∷ [], (vint w64 (d .place) ∷ [], tt))
+
+-- what a reader owns, and what its reel does
 abbrev pub Own : Lft → Reader → Fml
 Own κ d = B (κ, tt) .own d (mach d ∷ [])
+
+abbrev pub Kept : Lft → Reader → Fml
+Kept κ d = ShrSlice (named 0) κ u8 .own (d .reel) (reel-value d ∷ [])
 
 module _ {M : Type 1} (𝓤 : URA M) (H : Heap 𝓤) (A : Atoms 𝓤) (W : Given 𝓤 H A) (κ : Lft) (q : Share) (d : Reader) where
   pub twice : ent 𝓤 (⋆ 𝓤 H A (‵ (Own κ d) ∷ [])) (⋆ 𝓤 H A ((‵ (Own κ d) ⊛ ‵ (Own κ d)) ∷ []))
@@ -76,6 +82,16 @@ module _ {M : Type 1} (𝓤 : URA M) (H : Heap 𝓤) (A : Atoms 𝓤) (W : Given
       -- [what reel owns; what place owns; what the reader owns; the token]
       move ! (1 ∷ []) $ drop ! $ nothing ! $ owned ! usize (Is usize) (uint-makes 𝓤 H A W w64) (d .place) _ (refl, fits) $ fjoin ! $ move ! (1 ∷ 0 ∷ []) $ fjoin ! $
       move ! (2 ∷ 0 ∷ []) $ use2 W (raw P) asked $ frame ! $ done !)
+
+  -- the reel and the place give what a callee that takes the reader asks, P, and the reel is kept
+  pub together : (P : SProp 𝓤) → ent 𝓤 (reader-held) P → d .place < 2 ^ 64 → ent 𝓤 (reel-and-place) (sep 𝓤 P (sem 𝓤 H A (Kept κ d)))
+  together P asked fits =
+      qed W ((‵ (flft κ q) ⊛ ‵ ftrue) ∷ ‵ (owns (ShrSlice (named 0) κ u8 ∷ usize ∷ []) (d .reel, (d .place, tt)) (passed d)) ∷ []) ∵
+      move ! (1 ∷ []) $ fsplit ! $ use1 W (‵ (Kept κ d) ⊛ ‵ (Kept κ d)) (shr-slice-copy 𝓤 H A W (named 0) κ u8 .twice (d .reel) (reel-value d ∷ [])) $ split ! $
+      -- [what reel owns; the same; what place owns; the token]
+      move ! (2 ∷ []) $ drop ! $ nothing ! $ owned ! usize (Is usize) (uint-makes 𝓤 H A W w64) (d .place) _ (refl, fits) $ fjoin ! $ move ! (1 ∷ 0 ∷ []) $ fjoin ! $
+      use1 W (‵ (Own κ d)) (own-shut 𝓤 H A W (D (κ, tt)) (L (κ, tt)) (vd (κ, tt) d)) $ nothing ! $ move ! (1 ∷ 0 ∷ []) $ fjoin ! $
+      move ! (2 ∷ 0 ∷ []) $ use2 W (raw P) asked $ frame ! $ done !
 
   -- the machine value is of the struct's type
   pub typed : Is (B (κ, tt)) d (mach d ∷ []) → Holds (hasTy (T′.mir (named 0)) (mach d)) × WT (mach d)

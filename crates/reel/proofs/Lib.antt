@@ -4,4 +4,7 @@ pub mod Onward
 pub mod Records
 pub mod Reading
 pub mod Held
+pub mod Contracts
+pub mod Answering
+pub mod Promised
 pub mod Walk

@@ -5,7 +5,7 @@ use mathlib.Core.Bool.{Bool, true, false}
 use mathlib.Core.List.{List, [], _++_, flatten}
 use native.Mathlib.Omega.{arith}
 use lib.ListN.{length, drop, drop-of-length-le}
-use Rattle.record.specs.Record.{headerBytes}
+use Rattle.header.specs.Format.{headerBytes}
 use Rattle.reel.specs.Reel.{finished, stepAt, recordAt, nextPlace}
 use Rattle.reel.specs.Walk.{Walk, isRecord, stopped, handing, onward, walkFrom, AllAccepted}
 use Rattle.reel.proofs.Place.{Told, told, split, moved}

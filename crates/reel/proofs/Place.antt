@@ -1,6 +1,6 @@
 -- What each answer at a place of a reel tells. Assumes nothing.
 use Prim.Native.Nat.{ℕ, _+_, _*_, _-_, _≤_, _<_}
-use mathlib.Core.Path.{_≡_, refl, ap, sym, _∙_}
+use mathlib.Core.Path.{_≡_, refl, ap, sym, subst, _∙_}
 use mathlib.Core.Bool.{Bool, true, false, true≢false, cond}
 use mathlib.Core.List.{List, [], _++_}
 use native.Mathlib.Omega.{arith}
@@ -8,9 +8,10 @@ use lib.Dec.{eqb, leb}
 use lib.ListN.{length, take, drop, take-append-drop, length-drop, length-append}
 use lib.Seq.{drop-drop}
 use borrow.Author.Tests.{le-leb, lt-leb, leb-true, leb-false, eqb-true, eqb-false}
-use Rattle.record.specs.Record.{headerBytes, recordRefusal}
+use Rattle.header.specs.Format.{headerBytes}
+use Rattle.record.specs.Record.{recordRefusal}
 use Rattle.answers.proofs.Refusals.{cond-none, cond-some}
-use Rattle.reel.specs.Reel.{Found, accepted, finished, refused, wordThree, restRefusal, foundIn, stepAt, bytesFound, placeAfter, recordAt, nextPlace}
+use Rattle.reel.specs.Reel.{Found, accepted, finished, refused, wordsIn, restRefusal, foundIn, stepAt, bytesFound, placeAfter, recordAt, nextPlace}
 use Rattle.reel.specs.Walk.{isRecord}
 use Rattle.reel.proofs.Rest.{whole, rest-number, accepted-size, front-size, front-accepted}
 
@@ -26,11 +27,11 @@ module _ (reel : List ℕ) (place : ℕ) where
   step-found h = (λ i. cond (lt-leb (length reel) place h i) finished (foundIn place (drop place reel)))
 
 module _ (place : ℕ) (rest : List ℕ) where
-  pub found-accepted : restRefusal rest ≡ 0 → foundIn place rest ≡ accepted place (place + 2 * wordThree rest)
-  found-accepted e = cond-none (restRefusal rest) (refused (restRefusal rest)) (accepted place (place + 2 * wordThree rest)) e
+  pub found-accepted : restRefusal rest ≡ 0 → foundIn place rest ≡ accepted place (place + 2 * wordsIn rest)
+  found-accepted e = cond-none (restRefusal rest) (refused (restRefusal rest)) (accepted place (place + 2 * wordsIn rest)) e
 
   pub found-refused : (restRefusal rest ≡ 0 → ⊥) → foundIn place rest ≡ refused (restRefusal rest)
-  found-refused e = cond-some (restRefusal rest) (refused (restRefusal rest)) (accepted place (place + 2 * wordThree rest)) e
+  found-refused e = cond-some (restRefusal rest) (refused (restRefusal rest)) (accepted place (place + 2 * wordsIn rest)) e
 
 -- an accepted record at the front of what is left is found
 pub step-record : (reel : List ℕ) (place : ℕ) (b rest : List ℕ) → drop place reel ≡ b ++ rest → recordRefusal b ≡ 0
@@ -62,11 +63,11 @@ by-cond P true f g = f refl
 by-cond P false f g = g refl
 
 module _ (reel : List ℕ) (place : ℕ) where
-  stands : place < length reel → restRefusal (drop place reel) ≡ 0 → Stands reel place place (place + 2 * wordThree (drop place reel))
+  stands : place < length reel → restRefusal (drop place reel) ≡ 0 → Stands reel place place (place + 2 * wordsIn (drop place reel))
   stands h e =
       let rest = drop place reel in
       let w = whole rest e in
-      let size : place + 2 * wordThree rest - place ≡ 2 * wordThree rest = omega arith in
+      let size : place + 2 * wordsIn rest - place ≡ 2 * wordsIn rest = omega arith in
       record {
         here = refl;
         header = omega (arith, w .words);
@@ -85,6 +86,10 @@ module _ (reel : List ℕ) (place : ℕ) where
     where
       positive : (n : ℕ) → (n ≡ 0 → ⊥) → 1 ≤ n
       positive n f = omega arith
+
+  -- of a record that was found
+  pub stands-at : (start end : ℕ) → stepAt reel place ≡ accepted start end → Stands reel place start end
+  stands-at start end e = subst (Told reel place) e told
 
 -- by what stands there
 module _ (reel : List ℕ) (place : ℕ) where

@@ -5,7 +5,7 @@ use mathlib.Core.List.{List, [], _∷_, flatten}
 use native.Mathlib.Omega.{arith}
 use lib.ListN.{length, take, drop, length-drop, length-append}
 use lib.Seq.{drop-drop, take-append-seam, drop-append-seam}
-use Rattle.record.specs.Record.{headerBytes}
+use Rattle.header.specs.Format.{headerBytes}
 use Rattle.reel.specs.Reel.{Found, accepted, finished, stepAt, bytesFound, placeAfter, recordAt, nextPlace}
 use Rattle.reel.specs.Walk.{Walk, isRecord, onward, walkFrom, AllAccepted}
 use Rattle.reel.proofs.Rest.{accepted-size}

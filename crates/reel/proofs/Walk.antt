@@ -1,5 +1,5 @@
--- The claims of a walk along any reel from place 0. 01: "Where a walk from place 0 finishes, the records handed out, joined, are
--- the reel." `walk` is in specs/Walk, the reader's walk in specs/Reader, what stands at a place in specs/Reel.
+-- The claims of a walk along any reel from place 0. FORMAT, "The reel": where it finishes, the records handed out, joined, are the
+-- reel. `walk` is in specs/Walk, the reader's walk in specs/Reader, what stands at a place in specs/Reel.
 -- Assumes nothing.
 use Prim.Native.Nat.{ℕ, _+_, _/_, _≤_}
 use mathlib.Core.Path.{_≡_, refl}
@@ -8,7 +8,8 @@ use mathlib.Core.List.{List, [], flatten}
 use native.Mathlib.Omega.{arith}
 use lib.ListN.{length}
 use denote.Ref.{RefT, now}
-use Rattle.record.specs.Record.{headerBytes, recordRefusal}
+use Rattle.header.specs.Format.{headerBytes}
+use Rattle.record.specs.Record.{recordRefusal}
 use Rattle.reel.specs.Reel.{finished, stepAt, recordAt, nextPlace}
 use Rattle.reel.specs.Walk.{isRecord, walk, AllAccepted}
 use Rattle.reel.specs.Reader.{atStart, readerWalk}

@@ -1,5 +1,4 @@
--- A reel reader and its walk. 01: "The walk is by a reel reader that keeps its reel and the place reached."; of a refusal, "a
--- reel reader comes back as it was".
+-- A reel reader and its walk. FORMAT, "The reel".
 use Prim.Native.Nat.{ℕ, zero, suc}
 use mathlib.Core.Bool.{Bool, true, false}
 use mathlib.Core.List.{List}

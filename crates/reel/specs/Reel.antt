@@ -1,24 +1,24 @@
--- What stands at a place of a reel, its record, and the place after it. 01: "A reel is records back to back. ... Nothing left,
--- or a place past the end: finished. Fewer than 80 bytes left, or word 3 below 40: 1. Twice word 3 above what is left: 2.
--- Then 3 to 11. A refusal doesn't move the place."
-use Prim.Native.Nat.{ℕ, _+_, _-_, _*_}
+-- What stands at a place of a reel, its record, and the place after it. FORMAT, "The reel".
+use Prim.Native.Nat.{ℕ, _+_, _-_, _*_, _/_}
 use mathlib.Core.Bool.{cond, _||_}
 use mathlib.Core.List.{List, [], _∷_}
 use lib.Dec.{eqb, leb, ltb}
 use lib.ListN.{length, take, drop}
-use Rattle.fields.specs.Field.{word_, valueOf}
+use Rattle.fields.specs.Field.{valueOf}
+use Rattle.header.specs.Format.{headerBytes}
+use Rattle.header.specs.Rows.{lengthWords}
 use Rattle.answers.specs.Refusal.{Check, _when_, first, _then_}
-use Rattle.record.specs.Record.{headerBytes, recordRefusal}
+use Rattle.record.specs.Record.{recordRefusal}
 
--- words of the header
+-- words of the header: no record is shorter
 abbrev pub headerWords : ℕ
-headerWords = 40
+headerWords = headerBytes / 2
 
--- word 3 of what is left of a reel: the length in words of the record there
-unfoldable pub wordThree : List ℕ → ℕ
-wordThree rest = valueOf (word 3) rest
+-- the length in words of the record that what is left of a reel begins with
+abbrev pub wordsIn : List ℕ → ℕ
+wordsIn rest = valueOf lengthWords rest
 
--- 1 and 2, for this many bytes left and this word 3
+-- 1: fewer bytes left than a header, or a record shorter than one; 2: a record longer than what is left
 abbrev pub restChecks : ℕ → ℕ → List Check
 restChecks left words =
     1 when (ltb left headerBytes || ltb words headerWords) ∷
@@ -27,8 +27,7 @@ restChecks left words =
 
 -- the refusal of the record that what is left begins with, or 0: 1, 2, then that of its own bytes, which is 3 to 11 (proofs/Rest)
 unfoldable pub restRefusal : List ℕ → ℕ
-restRefusal rest =
-    first (restChecks (length rest) (wordThree rest)) then recordRefusal (take (2 * wordThree rest) rest)
+restRefusal rest = first (restChecks (length rest) (wordsIn rest)) then recordRefusal (take (2 * wordsIn rest) rest)
 
 -- a record from its start to its end, or nothing more, or a refusal
 pub data Found : Type 0 where
@@ -39,9 +38,9 @@ pub data Found : Type 0 where
 -- what stands at a place that is not past the end, by what is left
 abbrev pub foundIn : ℕ → List ℕ → Found
 foundIn place rest =
-    cond (eqb (restRefusal rest) 0) (accepted place (place + 2 * wordThree rest)) (refused (restRefusal rest))
+    cond (eqb (restRefusal rest) 0) (accepted place (place + 2 * wordsIn rest)) (refused (restRefusal rest))
 
--- what stands at a place of a reel
+-- what stands at a place of a reel; past the end nothing more
 unfoldable pub stepAt : List ℕ → ℕ → Found
 stepAt reel place = cond (leb (length reel) place) finished (foundIn place (drop place reel))
 

@@ -1,4 +1,4 @@
--- The number and the values of 01 for each case of the code's answer.
+-- The number and the values for each case of the code's answer.
 use Rattle.reel.specs.Reel.{Found, accepted, finished, refused}
 use Rattle.reel.specs.declared.Step.{Step}
 use Rattle.reel.specs.declared.Step.the-variants.{Record, Finished, Refused}

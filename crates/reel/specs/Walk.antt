@@ -1,10 +1,11 @@
--- A walk along a reel: from a place on, record after record, until there is none. 01: "The reel".
+-- A walk along a reel: from a place on, record after record, until there is none. FORMAT, "The reel".
 use Prim.Native.Nat.{ℕ, zero, suc, _/_}
 use mathlib.Core.Path.{_≡_}
 use mathlib.Core.Bool.{Bool, true, false}
 use mathlib.Core.List.{List, [], _∷_}
 use lib.ListN.{length}
-use Rattle.record.specs.Record.{headerBytes, recordRefusal}
+use Rattle.header.specs.Format.{headerBytes}
+use Rattle.record.specs.Record.{recordRefusal}
 use Rattle.reel.specs.Reel.{Found, accepted, finished, refused, stepAt, recordAt, nextPlace}
 
 -- the records handed out, the place reached, and what stands there
@@ -36,7 +37,7 @@ unfoldable pub walkFrom : List ℕ → ℕ → ℕ → Walk
 walkFrom reel zero place = stopped reel place
 walkFrom reel (suc n) place = onward reel (walkFrom reel n) place (isRecord (stepAt reel place))
 
--- the walk from place 0: no reel has room for more records than one for each 80 bytes
+-- the walk from place 0: no reel has room for more records than one for each header
 unfoldable pub walk : List ℕ → Walk
 walk reel = walkFrom reel (length reel / headerBytes) 0
 

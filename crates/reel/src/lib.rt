@@ -1,17 +1,14 @@
-// A reel, records back to back, and what stands at a place of it. 01: "The reel". Every function here takes any bytes and any
+// A reel, records back to back, and what stands at a place of it. FORMAT, "The reel". Every public function takes any bytes and any
 // place.
 ghost use mathlib.Core.Path.{_≡_};
-ghost use Prim.Native.Nat.{_<_};
-ghost use Rattle.reel.specs.Reel.{wordThree, restRefusal, stepAt, recordAt, nextPlace};
+ghost use Prim.Native.Nat.{_<_, _^_};
+ghost use Rattle.reel.specs.Reel.{wordsIn, restRefusal, stepAt, recordAt, nextPlace};
 ghost use Rattle.reel.specs.Shown.{shownStep};
 ghost use Rattle.reel.specs.Reader.{atStart, stepOf, recordOf, movedOn};
-use fields::Field;
+use header::HEADER_BYTES;
 
 // Words of the header: no record is shorter.
-const HEADER_WORDS: usize = 40;
-
-// Word 3, all 16 bits of it.
-const WORD_3: Field = Field(3, 1, 16, false);
+const HEADER_WORDS: usize = HEADER_BYTES / 2;
 
 // What stands at a place: a record, nothing more, or the refusal.
 pub enum Step {
@@ -20,19 +17,19 @@ pub enum Step {
     Refused(u8),
 }
 
-// Word 3 of what is left, the length in words of the record there.
-fn word_3(rest: &[u8]) -> usize
-    ensures { λ r. ⌜ (r ≡ wordThree (now (rest .entry))) × (r < 65536) ⌝ }
+// The length in words of the record that what is left begins with.
+fn words_in(rest: &[u8]) -> usize
+    ensures { λ r. ⌜ (r ≡ wordsIn (now (rest .entry))) × (r < 2 ^ 16) ⌝ }
 {
-    fields::read_field(rest, WORD_3) as usize
+    fields::read_field(rest, header::LENGTH_WORDS) as usize
 }
 
-// The refusal of the record that what is left begins with, or 0.
-fn rest_refusal(rest: &[u8]) -> u8
+// The refusal of the record that what is left begins with, of this length in words, or 0.
+fn rest_refusal(rest: &[u8], words: usize) -> u8
+    requires { ⌜ (words ≡ wordsIn (now rest)) × (words < 2 ^ 16) ⌝ }
     ensures { λ r. ⌜ r ≡ restRefusal (now (rest .entry)) ⌝ }
 {
-    let words = word_3(rest);
-    if (rest.len() < record::HEADER_BYTES) | (words < HEADER_WORDS) {
+    if (rest.len() < HEADER_BYTES) | (words < HEADER_WORDS) {
         return 1;
     }
     let size = 2 * words;
@@ -50,13 +47,14 @@ pub fn step_at(reel: &[u8], place: usize) -> Step
         return Step::Finished;
     }
     let rest = &reel[place..];
-    let refusal = rest_refusal(rest);
+    let words = words_in(rest);
+    let refusal = rest_refusal(rest, words);
     if refusal != 0 {
         return Step::Refused(refusal);
     }
     Step::Record {
         start: place,
-        end: place + 2 * word_3(rest),
+        end: place + 2 * words,
     }
 }
 
@@ -120,4 +118,11 @@ impl<'a> Reader<'a> {
             place,
         }
     }
+}
+
+// What stands at the place, by a reader made there: for callers that hold a reel and a place, as the lister and C.
+pub fn step_by_reader(reel: &[u8], place: usize) -> Step
+    ensures { λ r. ⌜ shownStep r ≡ stepAt (now (reel .entry)) place ⌝ }
+{
+    Reader { reel, place }.peek()
 }

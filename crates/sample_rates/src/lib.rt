@@ -2,6 +2,7 @@
 ghost use mathlib.Core.Path.{_≡_};
 ghost use Prim.Native.Nat.{_≤_};
 ghost use Rattle.sample_rates.specs.Rates.{secondUs, line, sampleRateOf, intervalUs};
+ghost use Rattle.sample_rates.specs.Answer.{rateLineOut};
 
 // The microseconds of a second.
 const SECOND_US: u64 = 1_000_000;
@@ -74,4 +75,27 @@ pub fn interval_us(rate: SampleRate) -> u64
         return 0;
     }
     SECOND_US / rate.hz
+}
+
+// What follows from a rate, beside the refusal: the samples a channel has in a record, the records of a second, and the microseconds
+// from a sample to the next; with 5, for a number that is no rate, they are 0.
+#[repr(C)]
+pub struct RateLineAnswer {
+    pub refusal: u8,
+    pub samples: u64,
+    pub records: u64,
+    pub interval_us: u64,
+}
+
+pub fn rate_line(hz: u64) -> RateLineAnswer
+    ensures { λ r. ⌜ r ≡ rateLineOut hz ⌝ }
+{
+    let rate = sample_rate_of(hz);
+    let interval_us = interval_us(rate);
+    RateLineAnswer {
+        refusal: answers::check(5, rate.hz == 0, 0),
+        samples: rate.samples,
+        records: rate.records,
+        interval_us,
+    }
 }

@@ -5,7 +5,7 @@ use mathlib.Core.Path.{_≡_, _∙_, ap}
 use mathlib.Core.List.{List}
 use native.Mathlib.Omega.{arith}
 use lib.IntN.{ℤ, pos}
-use lib.ListN.{length, getD, drop}
+use lib.ListN.{getD, drop}
 use lib.Seq.{getD-take, getD-drop}
 use Rattle.lists.proofs.Fill.{over-low}
 use Rattle.channels.specs.Sample.{signedOf, sampleOf}
@@ -24,6 +24,7 @@ module _ (b : List ℕ) (c k : ℕ) (above : 1 ≤ c) (below : c ≤ 4) (within 
       ∙ ap (λ (i : ℕ). getD b i 0) (omega arith))
 
   -- what an accepted `read_samples` leaves at place k of the buffer of channel c
-  pub sample-read : (buffer : List ℤ) → getD (channelAfter 0 b c buffer) k (pos 0) ≡ signedOf (getD b (headerBytes + 4 * k + (c - 1)) 0)
+  pub sample-read : (buffer : List ℤ)
+      → getD (channelAfter 0 b c buffer) k (pos 0) ≡ signedOf (getD b (headerBytes + 4 * k + (c - 1)) 0)
   unfolding channelAfter
   sample-read buffer = over-low buffer (sampleOf (stretchOf b) c) (pos 0) (sampleCount b) k within ∙ sample-byte

@@ -1,4 +1,4 @@
--- What a refusal of 0 says: the record is accepted, its stretch lies within it, and each buffer holds its samples. Assumes nothing.
+-- What a refusal of 0 says: the record's stretch lies within it, and each buffer holds its samples. Assumes nothing.
 use Prim.Native.Nat.{ℕ, _+_, _*_, _/_, _≤_}
 use mathlib.Core.Path.{_≡_, ap, sym, _∙_}
 use mathlib.Core.List.{List, [], _∷_}

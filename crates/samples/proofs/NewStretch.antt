@@ -11,7 +11,11 @@ use Rattle.record.specs.Record.{recordRefusal}
 use Rattle.record.specs.Stretch.{sampleCount, stretchOf, withStretch}
 use Rattle.samples.proofs.FirstBytes.{same-refusal, same-count}
 
-module _ (b : List ℕ) (inside : headerBytes + 4 * sampleCount b ≤ length b) (stretch : List ℕ) (fits : length stretch ≡ 4 * sampleCount b) where
+module _
+    (b : List ℕ)
+    (inside : headerBytes + 4 * sampleCount b ≤ length b)
+    (stretch : List ℕ)
+    (fits : length stretch ≡ 4 * sampleCount b) where
   abbrev rest : List ℕ
   rest = drop (headerBytes + 4 * sampleCount b) b
 
@@ -21,7 +25,8 @@ module _ (b : List ℕ) (inside : headerBytes + 4 * sampleCount b ≤ length b) 
   new-length : length (withStretch b stretch) ≡ length b
   unfolding withStretch
   new-length =
-      omega (arith, fits, header-length, length-append (take headerBytes b) (stretch ++ rest), length-append stretch rest, length-drop (headerBytes + 4 * sampleCount b) b)
+      let all = length-append (take headerBytes b) (stretch ++ rest) in
+      omega (arith, fits, header-length, all, length-append stretch rest, length-drop (headerBytes + 4 * sampleCount b) b)
 
   pub new-first : take headerBytes (withStretch b stretch) ≡ take headerBytes b
   unfolding withStretch

@@ -32,11 +32,13 @@ module _ (refusal : ℕ) (b : List ℕ) (some : refusal ≡ 0 → ⊥) where
 
 -- what no refusal leaves
 module _ (refusal : ℕ) (b : List ℕ) (none : refusal ≡ 0) where
-  pub buffer-by : (channel : ℕ) (buffer : List ℤ) → channelAfter refusal b channel buffer ≡ over buffer (sampleOf (stretchOf b) channel) (sampleCount b)
+  pub buffer-by : (channel : ℕ) (buffer : List ℤ)
+      → channelAfter refusal b channel buffer ≡ over buffer (sampleOf (stretchOf b) channel) (sampleCount b)
   unfolding channelAfter
   buffer-by channel buffer = cond-none refusal buffer _ none
 
-  pub record-by : (one two three four : List ℤ) → recordAfter refusal b one two three four ≡ withStretch b (interleaved (sampleCount b) one two three four)
+  pub record-by : (one two three four : List ℤ)
+      → recordAfter refusal b one two three four ≡ withStretch b (interleaved (sampleCount b) one two three four)
   unfolding recordAfter
   record-by one two three four = cond-none refusal b _ none
 
@@ -51,7 +53,8 @@ buffer-length refusal b channel buffer h =
 -- a channel's samples, out of the stretch
 pub buffer-filled : (b s : List ℕ) → s ≡ stretchOf b → headerBytes + 4 * sampleCount b ≤ length b
     → (channel : ℕ) (buffer out : List ℤ) → (ltb channel 1 || ltb 4 channel) ≡ false → sampleCount b ≤ length buffer
-    → out ≡ over buffer (sampleOf s channel) (channelRoom channel (length s) (length buffer)) → out ≡ channelAfter 0 b channel buffer
+    → out ≡ over buffer (sampleOf s channel) (channelRoom channel (length s) (length buffer))
+    → out ≡ channelAfter 0 b channel buffer
 unfolding channelAfter
 buffer-filled b s e inside channel buffer out c h o =
     o
@@ -69,16 +72,21 @@ module _ (b : List ℕ) (n : ℕ) (e : n ≡ sampleCount b) where
       let k : headerBytes + 4 * n - headerBytes ≡ 4 * n = omega arith in
       λ i. take ((k ∙ ap (λ (m : ℕ). 4 * m) e) i) (drop headerBytes b)
 
-  put-back : headerBytes + 4 * n ≤ length b → (bytes : List ℕ) → putMid headerBytes (headerBytes + 4 * n - headerBytes) b bytes ≡ withStretch b bytes
+  put-back : headerBytes + 4 * n ≤ length b → (bytes : List ℕ)
+      → putMid headerBytes (headerBytes + 4 * n - headerBytes) b bytes ≡ withStretch b bytes
   unfolding withStretch
   put-back inside bytes =
       ap (λ (x : List ℕ). take headerBytes b ++ (bytes ++ x))
       (post-is headerBytes (headerBytes + 4 * n) b (omega arith) ∙ ap (λ (k : ℕ). drop (headerBytes + 4 * k) b) e)
 
-  pub record-filled : (one two three four : List ℤ) → Room b (length one) (length two) (length three) (length four) → (last : List ℕ)
-      → last ≡ multiplexed part one two three four → putMid headerBytes (headerBytes + 4 * n - headerBytes) b last ≡ recordAfter 0 b one two three four
+  pub record-filled : (one two three four : List ℤ) → Room b (length one) (length two) (length three) (length four)
+      → (last : List ℕ)
+      → last ≡ multiplexed part one two three four
+      → putMid headerBytes (headerBytes + 4 * n - headerBytes) b last ≡ recordAfter 0 b one two three four
   unfolding recordAfter
   record-filled one two three four r last h =
       put-back (omega (arith, e, r .inside)) last
       ∙ ap (withStretch b)
-      (h ∙ ap (λ (s : List ℕ). multiplexed s one two three four) part-is ∙ all-in b (r .inside) one two three four (r .first) (r .second) (r .third) (r .fourth))
+      (h
+      ∙ ap (λ (s : List ℕ). multiplexed s one two three four) part-is
+      ∙ all-in b (r .inside) one two three four (r .first) (r .second) (r .third) (r .fourth))

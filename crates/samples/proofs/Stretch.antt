@@ -37,7 +37,8 @@ module _ (b : List ℕ) (inside : headerBytes + 4 * sampleCount b ≤ length b) 
 
   pub stretch-bytes : ((i : ℕ) → getD b i 0 < 256) → (i : ℕ) → getD (stretchOf b) i 0 < 256
   stretch-bytes bytes i =
-      ⊎-elim (λ past. rw (List·getD-eq-default (stretchOf b) 0 {n = i} (omega (arith, length-stretch))) (lit< tt)) (λ h. rw (stretch-at i h) (bytes (headerBytes + i)))
+      ⊎-elim (λ past. rw (List·getD-eq-default (stretchOf b) 0 {n = i} (omega (arith, length-stretch))) (lit< tt))
+      (λ h. rw (stretch-at i h) (bytes (headerBytes + i)))
       (le-or-lt (4 * sampleCount b) i)
 
   -- put back, it changes nothing
@@ -51,7 +52,9 @@ module _ (b : List ℕ) (inside : headerBytes + 4 * sampleCount b ≤ length b) 
 
   -- its totals are over all samples of the record
   pub whole-totals : totalsOf (stretchOf b) (setCount (stretchOf b)) ≡ totalsOf (stretchOf b) (sampleCount b)
-  whole-totals = ap (totalsOf (stretchOf b)) (let e : setCount (stretchOf b) ≡ sampleCount b = omega (arith, length-stretch, count-small b) in e)
+  whole-totals =
+      let e : setCount (stretchOf b) ≡ sampleCount b = omega (arith, length-stretch, count-small b) in
+      ap (totalsOf (stretchOf b)) e
 
   -- all samples go out to a buffer that holds them, of a channel from 1 to 4
   pub count-out : (channel : ℕ) (buffer : List ℤ) → (ltb channel 1 || ltb 4 channel) ≡ false → sampleCount b ≤ length buffer
@@ -59,13 +62,16 @@ module _ (b : List ℕ) (inside : headerBytes + 4 * sampleCount b ≤ length b) 
   count-out channel buffer c h = (λ i. cond (c i) 0 (min (set-count i) (length buffer))) ∙ min-eq-left h
 
   -- and come in from four channels that have them
-  pub all-in : (one two three four : List ℤ) → sampleCount b ≤ length one → sampleCount b ≤ length two → sampleCount b ≤ length three
-      → sampleCount b ≤ length four → multiplexed (stretchOf b) one two three four ≡ interleaved (sampleCount b) one two three four
+  pub all-in : (one two three four : List ℤ) → sampleCount b ≤ length one → sampleCount b ≤ length two
+      → sampleCount b ≤ length three
+      → sampleCount b ≤ length four
+      → multiplexed (stretchOf b) one two three four ≡ interleaved (sampleCount b) one two three four
   all-in one two three four p q r t =
       let n = sampleCount b in
       let e : setRoom (stretchOf b) one two three four ≡ n =
       ap (λ (k : ℕ). min k (min (min (length one) (length two)) (min (length three) (length four)))) set-count
       ∙ min-eq-left (le-min (le-min p q) (le-min r t)) in
       (λ i. interleaved (e i) one two three four ++ drop (4 * e i) (stretchOf b))
-      ∙ ap (λ (l : List ℕ). interleaved n one two three four ++ l) (drop-of-length-le (stretchOf b) {i = 4 * n} (omega (arith, length-stretch)))
+      ∙ ap (λ (l : List ℕ). interleaved n one two three four ++ l)
+      (drop-of-length-le (stretchOf b) {i = 4 * n} (omega (arith, length-stretch)))
       ∙ append-nil (interleaved n one two three four)

@@ -23,7 +23,8 @@ use Rattle.samples.proofs.Part.{record-kept, buffer-by, record-by, buff
 use Rattle.samples.proofs.NewStretch.{new-first, new-refusal, new-count, new-stretch}
 
 -- what holds of each of four lists holds of channel c of them
-each-channel : (P : List ℤ → Type 0) (one two three four : List ℤ) → P one → P two → P three → P four → (c : ℕ) → 1 ≤ c → c ≤ 4 → P (channelOf one two three four c)
+each-channel : (P : List ℤ → Type 0) (one two three four : List ℤ) → P one → P two → P three → P four → (c : ℕ) → 1 ≤ c → c ≤ 4
+    → P (channelOf one two three four c)
 unfolding channelOf
 each-channel P one two three four p q r s zero l h = absurd (let z : ⊥ = omega arith in z)
 each-channel P one two three four p q r s (suc zero) l h = p
@@ -103,7 +104,8 @@ module _ (b : List ℕ) (one two three four : List ℤ) where
         each-channel (λ (x : List ℤ). sampleCount b ≤ length x) one two three four (r .first) (r .second) (r .third) (r .fourth) c l h
 
     pub written-samples : (c : ℕ) → 1 ≤ c → c ≤ 4 → ((k : ℕ) → mag (getD (channelOf one two three four c) k (pos 0)) < 128)
-        → (r : ℕ) (buffer : List ℤ) → r ≡ 0 → channelAfter r written c buffer ≡ take (sampleCount b) (channelOf one two three four c) ++ drop (sampleCount b) buffer
+        → (r : ℕ) (buffer : List ℤ) → r ≡ 0
+        → channelAfter r written c buffer ≡ take (sampleCount b) (channelOf one two three four c) ++ drop (sampleCount b) buffer
     written-samples c l h f r buffer z =
         let n = ap sampleCount is-written ∙ new-count b inside stretch stretch-length in
         let s = ap stretchOf is-written ∙ new-stretch b inside stretch stretch-length in

@@ -10,6 +10,7 @@ ghost use Rattle.record.specs.Record.{recordRefusal};
 ghost use Rattle.samples.specs.InOut.{fewer, samplesRefusal, channelAfter, recordAfter};
 ghost use Rattle.samples.specs.Totals.{noTotals, totalsAnswer, shownTotals};
 use header::HEADER_BYTES;
+use totals::NO_TOTAL;
 use totals::Total;
 
 // The totals of channels 1 to 4 over all samples of a record, beside the refusal; with one, they are 0. An enum cannot hold an
@@ -25,7 +26,9 @@ fn judge(bytes: &[u8], count: usize, one: usize, two: usize, three: usize, four:
     ensures { λ r. ⌜ r ≡ recordRefusal (now (bytes .entry)) then first (12 when fewer count one two three four ∷ []) ⌝ }
 {
     let short = (one < count) | ((two < count) | ((three < count) | (four < count)));
-    answers::first_refusal(record::refusal_of(bytes), answers::check(12, short, 0))
+    let refusal = record::refusal_of(bytes);
+    let buffers = answers::check(12, short, 0);
+    answers::first_refusal(refusal, buffers)
 }
 
 // The samples of a record, out to the buffers of the four channels; places past them keep their contents. The stretch tells how
@@ -81,15 +84,9 @@ fn no_totals(refusal: u8) -> TotalsAnswer
     requires { ⌜ 1 ≤ refusal ⌝ }
     ensures { λ r. ⌜ shownTotals r ≡ refused noTotals refusal ⌝ }
 {
-    let none = Total {
-        sum: 0,
-        squares: 0,
-        least: 0,
-        greatest: 0,
-    };
     TotalsAnswer {
         refusal,
-        channels: [none; 4],
+        channels: [NO_TOTAL; 4],
     }
 }
 

@@ -1,43 +1,68 @@
 -- A text is judged by its length before it is put into a buffer: what the judgement says of the room, of the answer and of the
 -- buffer. Assumes nothing.
-use mathlib.Core.Path.{_≡_, sym, ap, _∙_}
-use mathlib.Core.Bool.{Bool, true, false, cond}
-use mathlib.Core.List.{List}
-use Prim.Native.Nat.{ℕ, _+_}
-use lib.Dec.{leb}
-use lib.ListN.{length}
-use lib.Seq.{sets}
-use borrow.Author.Tests.{leb-true, le-leb}
+use mathlib.Core.Path.{_≡_, refl, sym, ap, _∙_}
+use mathlib.Core.Bool.{Bool, true, false}
+use mathlib.Core.List.{List, [], _∷_, _++_}
+use Prim.Native.Nat.{ℕ, _+_, _≤_, _<_}
+use native.Mathlib.Nat.{zero-add}
+use native.Mathlib.Omega.{arith}
+use lib.Dec.{leb, ltb}
+use lib.ListN.{length, take, drop}
+use lib.Seq.{sets, sets-eq, take-append-seam}
+use borrow.Author.Tests.{leb-true, leb-false, lt-ltb, le-ltb}
+use Rattle.answers.specs.Answer.{Answer, accepted, refused, unless}
+use Rattle.answers.specs.Refusal.{_when_, first}
+use Rattle.answers.proofs.Refusals.{unless-none, unless-some, cond-none, cond-some}
 use Rattle.text.specs.Writing.{Room, Written}
-use Rattle.text.specs.declared.Put.the-variants.{Next, Full}
-use Rattle.text.specs.Text.{Shown, accepted, refused, shown, fits, putText, textAfter}
+use Rattle.text.specs.Placed.{refusalAt, answerAt, bufferAt}
 
--- `said` is what `room` says of `count` bytes, and the text has as many
-module _ (out : List ℕ) (at : ℕ) (text : List ℕ) {count : ℕ} {said : Bool} (counted : count ≡ length text) (judged : said ≡ leb (at + count) (length out)) where
-  judged-as : (t : Bool) → said ≡ t → t ≡ fits out at text
-  judged-as t e = sym e ∙ judged ∙ ap (λ (k : ℕ). leb (at + k) (length out)) counted
+module _ (out : List ℕ) (at : ℕ) (text : List ℕ) where
+  -- the buffer with the text from the place on
+  abbrev put : List ℕ
+  put = take at out ++ text ++ drop (at + length text) out
 
-  pub has-room : said ≡ true → Room out at text
-  has-room e = record { enough = leb-true (at + length text) (length out) (sym (judged-as true e)) }
+  refusal-by : (t : Bool) → ltb (length out) (at + length text) ≡ t → refusalAt out at text ≡ first (21 when t ∷ [])
+  unfolding refusalAt
+  refusal-by t e = ap (λ (b : Bool). first (21 when b ∷ [])) e
 
-  pub put-next : {next : ℕ} {after : List ℕ} → said ≡ true → Written out at text next after → (shown (Next next) ≡ putText out at text) × (after ≡ textAfter out at text)
-  put-next e w = (
-    ap accepted (w .place) ∙ ap (λ (t : Bool). cond t (accepted (at + length text)) (refused 21)) (judged-as true e),
-    w .buffer ∙ ap (λ (t : Bool). cond t (sets out at text) out) (judged-as true e),
-  )
+  pub not-refused : at + length text ≤ length out → refusalAt out at text ≡ 0
+  not-refused h = refusal-by _ (le-ltb (length out) (at + length text) h)
 
-  pub put-full : said ≡ false → (shown Full ≡ putText out at text) × (out ≡ textAfter out at text)
-  put-full e = (
-    ap (λ (t : Bool). cond t (accepted (at + length text)) (refused 21)) (judged-as false e),
-    ap (λ (t : Bool). cond t (sets out at text) out) (judged-as false e),
-  )
+  -- where there is room, what is written is what is put, and the other way round
+  pub placed : {next : ℕ} {after : List ℕ} → at + length text ≤ length out → Written out at text next after
+      → (accepted next ≡ answerAt out at text) × (after ≡ bufferAt out at text)
+  placed h w =
+      let none = not-refused h in (
+        ap accepted (w .place) ∙ unless-none (refusalAt out at text) 0 (at + length text) none,
+        w .buffer ∙ sets-eq text out at h ∙ sym (cond-none (refusalAt out at text) out put none),
+      )
 
--- where there is room, a line that is put is written
-pub put-written : (out : List ℕ) (at : ℕ) (text : List ℕ) {answer : Shown} {n : ℕ} {after : List ℕ} → Room out at text
-    → n ≡ answer .next → answer ≡ putText out at text → after ≡ textAfter out at text → Written out at text n after
-put-written out at text r e a b =
-    let fit : fits out at text ≡ true = le-leb (at + length text) (length out) (r .enough) in
-    record {
-      place = e ∙ ap (λ (s : Shown). s .next) (a ∙ ap (λ (t : Bool). cond t (accepted (at + length text)) (refused 21)) fit);
-      buffer = b ∙ ap (λ (t : Bool). cond t (sets out at text) out) fit;
-    }
+  pub put-written : {answer : Answer ℕ} {next : ℕ} {after : List ℕ} → Room out at text
+      → next ≡ answer .value → answer ≡ answerAt out at text → after ≡ bufferAt out at text → Written out at text next after
+  put-written r e a b =
+      let none = not-refused (r .enough) in
+      record {
+        place = e ∙ ap (λ (x : Answer ℕ). x .value) (a ∙ sym (unless-none (refusalAt out at text) 0 (at + length text) none));
+        buffer = b ∙ cond-none (refusalAt out at text) out put none ∙ sym (sets-eq text out at (r .enough));
+      }
+
+  pub too-long : length out < at + length text → (refused 0 21 ≡ answerAt out at text) × (out ≡ bufferAt out at text)
+  too-long h =
+      let e : refusalAt out at text ≡ 21 = refusal-by true (lt-ltb (length out) (at + length text) h) in
+      let some : refusalAt out at text ≡ 0 → ⊥ = λ z. omega (arith, e, z) in (
+        ap (refused 0) (sym e) ∙ unless-some (refusalAt out at text) 0 (at + length text) some,
+        sym (cond-some (refusalAt out at text) out put some),
+      )
+
+  -- by what `room` said
+  pub judged-room : {said : Bool} → said ≡ leb (at + length text) (length out) → said ≡ true → at + length text ≤ length out
+  judged-room e t = leb-true (at + length text) (length out) (sym e ∙ t)
+
+  pub judged-full : {said : Bool} → said ≡ leb (at + length text) (length out) → said ≡ false → length out < at + length text
+  judged-full e t = leb-false (at + length text) (length out) (sym e ∙ t)
+
+-- a text written from the start of a buffer is the buffer's front
+pub front : {line text after : List ℕ} {n : ℕ} → length text ≤ length line → Written line 0 text n after → take n after ≡ text
+front {line} {text} h w =
+    (λ i. take ((w .place ∙ zero-add (length text)) i) ((w .buffer ∙ sets-eq text line 0 (omega arith)) i))
+    ∙ take-append-seam text (drop (0 + length text) line)

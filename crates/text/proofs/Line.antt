@@ -1,24 +1,19 @@
--- The lines of a listing: their lengths, the longest line of a record, and the case of 01. Assumes nothing.
+-- The lines of a listing: how long they can be, and the case of FORMAT. Assumes nothing.
 use mathlib.Core.Path.{_≡_, refl}
 use mathlib.Core.List.{_++_}
 use Prim.Native.Nat.{ℕ, _+_, _*_, _/_, _^_, _≤_, _<_, zero-le}
-use native.Mathlib.Nat.{div-lt-iff-lt-mul, pow-le-pow-right}
+use native.Mathlib.Nat.{div-lt-iff-lt-mul, pow-le-pow-right, lt-of-lt-of-le}
 use native.Mathlib.Omega.{arith}
-use lib.Dec.{lit<}
+use lib.Dec.{lit<, lit≤}
 use lib.IntN.{ℤ, pos, negsuc, natAbs}
+use lib.Signed.{mag}
 use lib.ListN.{length, length-append}
 use Rattle.text.specs.Number.{ascii, digitsIn, decimalText, places, fixed, signedFixed}
-use Rattle.text.specs.Text.{headerLine, recordLine, recordLength, refusedLine, refusedLength}
+use Rattle.text.specs.declared.Columns.{Columns}
+use Rattle.text.specs.Text.{headerLine, recordLine, refusedLine, lineOf}
 use Rattle.text.proofs.Decimal.{decimal-length}
 use Rattle.text.proofs.Places.{fixed-parts}
-
-pub record-parts : (number first origin frequency : ℕ) (rate : ℤ) → length (recordLine number first origin frequency rate) ≡ recordLength number first origin frequency rate
-unfolding recordLine
-record-parts number first origin frequency rate = simp length-append (omega arith)
-
-pub refused-parts : (number : ℕ) → length (refusedLine number) ≡ refusedLength number
-unfolding refusedLine
-refused-parts number = simp length-append (omega arith)
+use Rattle.text.proofs.Signs.{natAbs-mag}
 
 -- a number below 10 ^ (d + k) with k places has at most d digits before the point
 fixed-length : (d k n : ℕ) → 0 < d → n < 10 ^ d * 10 ^ k → length (fixed k n) ≤ d + 1 + k
@@ -26,32 +21,50 @@ fixed-length d k n p h =
     let whole = div-lt-iff-lt-mul (pow-le-pow-right (lit< tt) zero-le) .1 h in
     omega (arith, fixed-parts k n, decimal-length d (n / 10 ^ k) p whole)
 
-signed-length : (k : ℕ) (z : ℤ) → length (signedFixed k z) ≤ length (fixed k (natAbs z)) + 1
+signed-length : (k : ℕ) (z : ℤ) → length (signedFixed k z) ≤ 1 + length (fixed k (natAbs z))
 unfolding signedFixed
 signed-length k (pos n) = omega arith
 signed-length k (negsuc n) = omega arith
 
--- a record's line has at most 51 bytes: 5 for the number, 11 for the time, 1 for the origin, 15 for the frequency, 14 for the
--- rate with its minus, and 5 for the commas and the line feed
-pub recordLine-length : (number first origin frequency : ℕ) (rate : ℤ) → number ≤ 65535 → first < 10 ^ 11 → origin ≤ 1 → frequency < 10 ^ 14 → natAbs rate ≤ 99999 * 10 ^ 7 → length (recordLine number first origin frequency rate) ≤ 51
-recordLine-length number first origin frequency rate hn hf ho hq hr =
-    let n = decimal-length 5 number (lit< tt) (omega arith) in
-    let f = decimal-length 11 first (lit< tt) hf in
-    let o = decimal-length 1 origin (lit< tt) (omega arith) in
-    let q = fixed-length 8 6 frequency (lit< tt) hq in
-    let r = fixed-length 7 5 (natAbs rate) (lit< tt) (omega arith) in
-    omega (arith, record-parts number first origin frequency rate, n, f, o, q, r, signed-length 5 rate)
+-- columns of at most n, t and o digits, and of f and r before the point
+pub record Digits (c : Columns) (n t o f r : ℕ) : Type 0 where
+  pub number : c .number < 10 ^ n
+  pub first : c .«first_us» < 10 ^ t
+  pub origin : c .origin < 10 ^ o
+  pub frequency : c .«frequency_uhz» < 10 ^ f * 10 ^ 6
+  pub rate : natAbs (c .«frequency_rate_units») < 10 ^ r * 10 ^ 5
 
-pub refusedLine-length : (number : ℕ) → number < 100 → length (refusedLine number) ≤ 11
-refusedLine-length number h = omega (arith, refused-parts number, decimal-length 2 number (lit< tt) h)
+pub line-within : (c : Columns) (n t o f r : ℕ) → 0 < n → 0 < t → 0 < o → 0 < f → 0 < r → Digits c n t o f r → length (recordLine c) ≤ lineOf n t o f r
+unfolding recordLine
+line-within c n t o f r pn pt po pf pr d =
+    let hn = decimal-length n (c .number) pn (d .number) in
+    let ht = decimal-length t (c .«first_us») pt (d .first) in
+    let ho = decimal-length o (c .origin) po (d .origin) in
+    let hf = fixed-length f 6 (c .«frequency_uhz») pf (d .frequency) in
+    let hr = fixed-length r 5 (natAbs (c .«frequency_rate_units»)) pr (d .rate) in
+    let hs = signed-length 5 (c .«frequency_rate_units») in
+    simp length-append (omega arith)
 
--- the 51 bytes are reached, by the last time of a day that a tag can give
-longest : length (recordLine 65535 86399999000 1 99999999999999 (negsuc 999989999999)) ≡ 51
+-- of numbers of 64 bits
+abbrev pub longestOfWords : ℕ
+longestOfWords = lineOf 20 20 20 14 14
+
+pub word-line : (c : Columns) → c .number < 2 ^ 64 → c .«first_us» < 2 ^ 64 → c .origin < 2 ^ 64 → c .«frequency_uhz» < 2 ^ 64 → mag (c .«frequency_rate_units») < 2 ^ 63 → length (recordLine c) ≤ longestOfWords
+word-line c hn ht ho hf hr =
+    line-within c 20 20 20 14 14 (lit< tt) (lit< tt) (lit< tt) (lit< tt) (lit< tt)
+    (record { number = lt-of-lt-of-le hn (lit≤ tt); first = lt-of-lt-of-le ht (lit≤ tt); origin = lt-of-lt-of-le ho (lit≤ tt); frequency = lt-of-lt-of-le hf (lit≤ tt); rate = omega (arith, natAbs-mag (c .«frequency_rate_units»)) })
+
+pub refusedLine-length : (d number : ℕ) → 0 < d → number < 10 ^ d → length (refusedLine number) ≤ 9 + d
+unfolding refusedLine
+refusedLine-length d number p h = let n = decimal-length d number p h in simp length-append (omega arith)
+
+-- the 51 bytes of the longest line of a record are reached, by the last time of a day that a tag can give
+longest : length (recordLine (record { number = 65535; «first_us» = 86399999000; origin = 1; «frequency_uhz» = 99999999999999; «frequency_rate_units» = negsuc 999989999999 })) ≡ lineOf 5 11 1 8 7
 unfolding recordLine signedFixed fixed places decimalText digitsIn
 longest = refl
 
--- what the lister prints of the case of 01: -1.23450 is `negsuc 123449`
-the-case : headerLine ++ recordLine 1 43200000000 1 42000000 (negsuc 123449) ≡ ascii "record,first_us,origin,poca_hz,rate_hz_s\n1,43200000000,1,42.000000,-1.23450\n"
+-- what the lister prints of the case of FORMAT: -1.23450 is `negsuc 123449`
+the-case : headerLine ++ recordLine (record { number = 1; «first_us» = 43200000000; origin = 1; «frequency_uhz» = 42000000; «frequency_rate_units» = negsuc 123449 }) ≡ ascii "record,first_us,origin,poca_hz,rate_hz_s\n1,43200000000,1,42.000000,-1.23450\n"
 unfolding headerLine recordLine signedFixed fixed places decimalText digitsIn
 the-case = refl
 

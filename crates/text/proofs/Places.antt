@@ -2,15 +2,13 @@
 -- Assumes nothing.
 use mathlib.Core.Path.{_≡_, refl, sym, ap, _∙_}
 use mathlib.Core.List.{[], _∷_, _++_, append-assoc, append-nil}
-use mathlib.Core.Logic.{⊎-elim}
-use Prim.Native.Nat.{ℕ, zero, suc, _+_, _-_, _/_, _^_, _≤_, _<_}
+use Prim.Native.Nat.{ℕ, zero, suc, _+_, _-_, _/_, _^_, _<_}
 use native.Mathlib.Nat.{div-one, div-div-eq-div-mul, pow-succ'}
 use native.Mathlib.Numerals.{add-one}
 use native.Mathlib.Omega.{arith}
 use lib.ListN.{length, length-append}
-use Rattle.lists.proofs.Order.{le-or-lt}
 use Rattle.text.specs.Number.{ascii, digit, decimalText, places, fixed, numeralValue}
-use Rattle.text.proofs.Decimal.{one-length, more-length, some-digit, value-last, value-decimal}
+use Rattle.text.proofs.Decimal.{value-last, value-decimal}
 
 pub places-length : (k n : ℕ) → length (places k n) ≡ k
 unfolding places
@@ -41,24 +39,6 @@ unfolding fixed
 fixed-parts k n =
     let whole = decimalText (n / 10 ^ k) in
     omega (arith, length-append whole (ascii "."), length-append (whole ++ ascii ".") (places k n), places-length k n)
-
-whole-length : (k n : ℕ) → (k < length (decimalText n) → length (decimalText (n / 10 ^ k)) + k ≡ length (decimalText n)) × (length (decimalText n) ≤ k → length (decimalText (n / 10 ^ k)) ≡ 1)
-whole-length zero n = ((λ h. omega (arith, ap (λ (m : ℕ). length (decimalText m)) (div-one n))), (λ h. absurd (omega (arith, some-digit n))))
-whole-length (suc k) n =
-    let e = ap (λ (m : ℕ). length (decimalText m)) (tenth k n) in
-    let below = whole-length k (n / 10) in
-    ⊎-elim
-    (λ g. let m = more-length n g in ((λ h. omega (arith, e, m, (below .0) (omega (arith, m)))), (λ h. omega (arith, e, (below .1) (omega (arith, m))))))
-    (λ g. let o = one-length n g in let z = one-length (n / 10) (omega arith) in ((λ h. absurd (omega (arith, o))), (λ h. ⊎-elim (λ p. omega (arith, e, (below .1) (omega (arith, z)))) (λ p. omega (arith, e, z, (below .0) (omega (arith, z)))) (le-or-lt 1 k))))
-    (le-or-lt 10 n)
-
--- all digits and the point, where there are more digits than places
-pub fixed-long : (k n : ℕ) → k < length (decimalText n) → length (fixed k n) ≡ length (decimalText n) + 1
-fixed-long k n h = omega (arith, fixed-parts k n, (whole-length k n .0) h)
-
--- else one digit, the point and the places
-pub fixed-short : (k n : ℕ) → length (decimalText n) ≤ k → length (fixed k n) ≡ k + 2
-fixed-short k n h = omega (arith, fixed-parts k n, (whole-length k n .1) h)
 
 -- the digits before the point with those behind it stand for the number of units
 pub value-fixed : (k n : ℕ) → numeralValue (decimalText (n / 10 ^ k) ++ places k n) ≡ n

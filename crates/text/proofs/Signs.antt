@@ -2,7 +2,7 @@
 use mathlib.Core.Path.{_≡_, refl, sym, ap, _∙_}
 use mathlib.Core.Bool.{Bool, true, false, cond, true≢false}
 use mathlib.Core.List.{_++_}
-use Prim.Native.Nat.{ℕ, suc, _+_, _-_}
+use Prim.Native.Nat.{ℕ, suc, _+_, _-_, _≤_}
 use native.Mathlib.Omega.{arith}
 use lib.Dec.{T}
 use lib.IntN.{ℤ, pos, negsuc, natAbs, _-ℤ_}
@@ -34,6 +34,11 @@ below-zero (negsuc a) e = (
 pub not-below-zero : (z : ℤ) → ltZ z (pos 0) ≡ false → T (nonNeg z) × (mag z ≡ natAbs z)
 not-below-zero (pos a) e = (tt, refl)
 not-below-zero (negsuc a) e = absurd (true≢false e)
+
+-- how far a number of w bits can be from zero
+pub natAbs-mag : (z : ℤ) → natAbs z ≤ mag z + 1
+natAbs-mag (pos a) = omega arith
+natAbs-mag (negsuc a) = omega arith
 
 minus-text : (k : ℕ) (z : ℤ) {n : ℕ} → n ≡ natAbs z → ltZ z (pos 0) ≡ true → ascii "-" ++ fixed k n ≡ signedFixed k z
 unfolding signedFixed

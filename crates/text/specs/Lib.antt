@@ -1,3 +1,4 @@
 pub mod Number
 pub mod Writing
 pub mod Text
+pub mod Placed

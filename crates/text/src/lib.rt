@@ -1,32 +1,40 @@
-// The lines of the lister (01, "The lister"), each put at a place of a lent buffer. A line that does not fit is refused (21) and
-// leaves the buffer as it was.
+// The lines of the lister (FORMAT, "The listing"), each put at a place of a lent buffer. A line that does not fit is refused (21)
+// and leaves the buffer as it was.
 ghost use mathlib.Core.Path.{_≡_};
 ghost use mathlib.Core.List.{[], _∷_, _++_};
-ghost use Prim.Native.Nat.{_+_, _≤_};
+ghost use Prim.Native.Nat.{_+_};
 ghost use lib.Dec.{leb};
 ghost use lib.IntN.{pos, natAbs};
-ghost use lib.ListN.{length};
 ghost use lib.Signed.{ltZ};
 ghost use Rattle.text.specs.Number.{ascii, digit, decimalText, fixed, signedFixed};
 ghost use Rattle.text.specs.Writing.{Room, Written};
-ghost use Rattle.text.specs.Text.{headerLine, recordLength, recordLine, refusedLength, refusedLine, shown, putText, textAfter};
+ghost use Rattle.text.specs.Text.{column, frequencyColumn, rateColumn, headerLine, recordLine, refusedLine};
+ghost use Rattle.text.specs.Placed.{shownText, answerAt, bufferAt};
 
 // Decimal places: six of hertz, five of a rate.
 const HERTZ_PLACES: usize = 6;
 
 const FREQUENCY_RATE_PLACES: usize = 5;
 
-// ## Numbers, each written at a place of a buffer that has room for it; a writer returns the place behind its text.
+// No line of five numbers of 64 bits is longer: `longestOfWords` of proofs/Line.
+const LONGEST_LINE: usize = 107;
 
-fn decimal_length(n: u64) -> usize
-    ensures { λ r. ⌜ (r ≡ length (decimalText n)) × (r ≤ 20) ⌝ }
-{
-    if n < 10 {
-        1
-    } else {
-        decimal_length(n / 10) + 1
-    }
+// The columns of a record's line.
+pub struct Columns {
+    pub number: u64,
+    pub first_us: u64,
+    pub origin: u64,
+    pub frequency_uhz: u64,
+    pub frequency_rate_units: i64,
 }
+
+// The place behind a text that was put into a buffer, or the refusal.
+pub enum TextAnswer {
+    Next(usize),
+    Refused(u8),
+}
+
+// ## Numbers, each written at a place of a buffer that has room for it; a writer returns the place behind its text.
 
 fn write_byte(out: &mut [u8], at: usize, byte: u8) -> usize
     requires { ⌜ Room (now out) at (byte ∷ []) ⌝ }
@@ -54,19 +62,6 @@ fn write_decimal(out: &mut [u8], at: usize, n: u64) -> usize
     } else {
         let last = write_decimal(out, at, n / 10);
         write_digit(out, last, n)
-    }
-}
-
-// The digits and the point; at least one digit stands before it.
-fn fixed_length(places: usize, n: u64) -> usize
-    requires { ⌜ places ≤ 20 ⌝ }
-    ensures { λ r. ⌜ (r ≡ length (fixed places n)) × (r ≤ 22) ⌝ }
-{
-    let digits = decimal_length(n);
-    if places < digits {
-        digits + 1
-    } else {
-        places + 2
     }
 }
 
@@ -101,18 +96,6 @@ fn below_zero(z: i64) -> bool
     z < 0
 }
 
-fn signed_fixed_length(places: usize, value: i64) -> usize
-    requires { ⌜ places ≤ 20 ⌝ }
-    ensures { λ r. ⌜ (r ≡ length (signedFixed places value)) × (r ≤ 23) ⌝ }
-{
-    let digits = fixed_length(places, magnitude(value));
-    if below_zero(value) {
-        digits + 1
-    } else {
-        digits
-    }
-}
-
 fn write_signed_fixed(out: &mut [u8], at: usize, places: usize, value: i64) -> usize
     requires { ⌜ Room (now out) at (signedFixed places value) ⌝ }
     ensures { λ r. ⌜ Written (now (out .entry)) at (signedFixed places value) r (now (out .exit)) ⌝ }
@@ -140,72 +123,52 @@ fn write_text(out: &mut [u8], at: usize, text: &[u8]) -> usize
 
 // ## Lines
 
-pub fn header_line_length() -> usize
-    ensures { λ r. ⌜ r ≡ length headerLine ⌝ }
-{
-    41
-}
-
-pub fn record_line_length(
-    number: u64,
-    first_us: u64,
-    origin: u64,
-    frequency_uhz: u64,
-    frequency_rate_units: i64,
-) -> usize
-    ensures { λ r. ⌜ r ≡ length (recordLine number «first_us» origin «frequency_uhz» «frequency_rate_units») ⌝ }
-{
-    let whole = decimal_length(number) + decimal_length(first_us) + decimal_length(origin);
-    let frequency = fixed_length(HERTZ_PLACES, frequency_uhz);
-    let rate = signed_fixed_length(FREQUENCY_RATE_PLACES, frequency_rate_units);
-    whole + frequency + rate + 5
-}
-
-pub fn refused_line_length(number: u64) -> usize
-    ensures { λ r. ⌜ r ≡ length (refusedLine number) ⌝ }
-{
-    decimal_length(number) + 9
-}
-
 // A whole number and the comma behind it.
 fn write_column(out: &mut [u8], at: usize, n: u64) -> usize
-    requires { ⌜ at + length (decimalText n) + 1 ≤ length (now out) ⌝ }
-    ensures { λ r. ⌜ Written (now (out .entry)) at (decimalText n ++ ascii ",") r (now (out .exit)) ⌝ }
-    ensures { λ r. ⌜ r ≡ at + length (decimalText n) + 1 ⌝ }
+    requires { ⌜ Room (now out) at (column n) ⌝ }
+    ensures { λ r. ⌜ Written (now (out .entry)) at (column n) r (now (out .exit)) ⌝ }
 {
     let comma_at = write_decimal(out, at, n);
     write_byte(out, comma_at, b',')
 }
 
-fn write_record_line(
-    out: &mut [u8],
-    at: usize,
-    number: u64,
-    first_us: u64,
-    origin: u64,
-    frequency_uhz: u64,
-    frequency_rate_units: i64,
-) -> usize
-    requires { ⌜ at + recordLength number «first_us» origin «frequency_uhz» «frequency_rate_units» ≤ length (now out) ⌝ }
-    ensures { λ r. ⌜ Written (now (out .entry)) at (recordLine number «first_us» origin «frequency_uhz» «frequency_rate_units») r (now (out .exit)) ⌝ }
+fn write_frequency(out: &mut [u8], at: usize, frequency_uhz: u64) -> usize
+    requires { ⌜ Room (now out) at (frequencyColumn «frequency_uhz») ⌝ }
+    ensures { λ r. ⌜ Written (now (out .entry)) at (frequencyColumn «frequency_uhz») r (now (out .exit)) ⌝ }
 {
-    let first_at = write_column(out, at, number);
-    let origin_at = write_column(out, first_at, first_us);
-    let frequency_at = write_column(out, origin_at, origin);
-    let comma_at = write_fixed(out, frequency_at, HERTZ_PLACES, frequency_uhz);
-    let rate_at = write_byte(out, comma_at, b',');
-    let end = write_signed_fixed(out, rate_at, FREQUENCY_RATE_PLACES, frequency_rate_units);
+    let comma_at = write_fixed(out, at, HERTZ_PLACES, frequency_uhz);
+    write_byte(out, comma_at, b',')
+}
+
+fn write_rate(out: &mut [u8], at: usize, units: i64) -> usize
+    requires { ⌜ Room (now out) at (rateColumn units) ⌝ }
+    ensures { λ r. ⌜ Written (now (out .entry)) at (rateColumn units) r (now (out .exit)) ⌝ }
+{
+    let end = write_signed_fixed(out, at, FREQUENCY_RATE_PLACES, units);
     write_byte(out, end, b'\n')
 }
 
+fn write_record_line(out: &mut [u8], at: usize, columns: Columns) -> usize
+    requires { ⌜ Room (now out) at (recordLine columns) ⌝ }
+    ensures { λ r. ⌜ Written (now (out .entry)) at (recordLine columns) r (now (out .exit)) ⌝ }
+{
+    let first_at = write_column(out, at, columns.number);
+    let origin_at = write_column(out, first_at, columns.first_us);
+    let frequency_at = write_column(out, origin_at, columns.origin);
+    let rate_at = write_frequency(out, frequency_at, columns.frequency_uhz);
+    write_rate(out, rate_at, columns.frequency_rate_units)
+}
+
 fn write_refused_line(out: &mut [u8], at: usize, number: u64) -> usize
-    requires { ⌜ at + refusedLength number ≤ length (now out) ⌝ }
+    requires { ⌜ Room (now out) at (refusedLine number) ⌝ }
     ensures { λ r. ⌜ Written (now (out .entry)) at (refusedLine number) r (now (out .exit)) ⌝ }
 {
     let number_at = write_text(out, at, b"refused,");
     let end = write_decimal(out, number_at, number);
     write_byte(out, end, b'\n')
 }
+
+// ## Texts put at a place of a buffer, or refused
 
 // Whether `count` bytes from `at` on lie within `length`: no sum is made, so none wraps.
 fn room(length: usize, at: usize, count: usize) -> bool
@@ -218,74 +181,48 @@ fn room(length: usize, at: usize, count: usize) -> bool
     }
 }
 
-// The place behind the line, or refusal 21: the buffer has no room for it.
-pub enum Put {
-    Next(usize),
-    Full,
+pub fn put_text(out: &mut [u8], at: usize, text: &[u8]) -> TextAnswer
+    ensures { λ r. ⌜ shownText r ≡ answerAt (now (out .entry)) at (now (text .entry)) ⌝ }
+    ensures { λ _. ⌜ now (out .exit) ≡ bufferAt (now (out .entry)) at (now (text .entry)) ⌝ }
+{
+    if room(out.len(), at, text.len()) {
+        TextAnswer::Next(write_text(out, at, text))
+    } else {
+        TextAnswer::Refused(21)
+    }
 }
 
 // The next place, 0 beside a refusal.
-pub fn next_of(put: Put) -> usize
-    ensures { λ r. ⌜ r ≡ shown put .next ⌝ }
+pub fn next_of(answer: TextAnswer) -> usize
+    ensures { λ r. ⌜ r ≡ shownText answer .value ⌝ }
 {
-    match put {
-        Put::Next(place) => place,
-        Put::Full => 0,
+    match answer {
+        TextAnswer::Next(place) => place,
+        TextAnswer::Refused(_) => 0,
     }
 }
 
-pub fn put_header_line(out: &mut [u8], at: usize) -> Put
-    ensures { λ r. ⌜ shown r ≡ putText (now (out .entry)) at headerLine ⌝ }
-    ensures { λ _. ⌜ now (out .exit) ≡ textAfter (now (out .entry)) at headerLine ⌝ }
+pub fn put_header_line(out: &mut [u8], at: usize) -> TextAnswer
+    ensures { λ r. ⌜ shownText r ≡ answerAt (now (out .entry)) at headerLine ⌝ }
+    ensures { λ _. ⌜ now (out .exit) ≡ bufferAt (now (out .entry)) at headerLine ⌝ }
 {
-    if room(out.len(), at, header_line_length()) {
-        Put::Next(write_text(out, at, b"record,first_us,origin,poca_hz,rate_hz_s\n"))
-    } else {
-        Put::Full
-    }
+    put_text(out, at, b"record,first_us,origin,poca_hz,rate_hz_s\n")
 }
 
-pub fn put_record_line(
-    out: &mut [u8],
-    at: usize,
-    number: u64,
-    first_us: u64,
-    origin: u64,
-    frequency_uhz: u64,
-    frequency_rate_units: i64,
-) -> Put
-    ensures { λ r. ⌜ shown r ≡ putText (now (out .entry)) at (recordLine number «first_us» origin «frequency_uhz» «frequency_rate_units») ⌝ }
-    ensures { λ _. ⌜ now (out .exit) ≡ textAfter (now (out .entry)) at (recordLine number «first_us» origin «frequency_uhz» «frequency_rate_units») ⌝ }
+pub fn put_record_line(out: &mut [u8], at: usize, columns: Columns) -> TextAnswer
+    ensures { λ r. ⌜ shownText r ≡ answerAt (now (out .entry)) at (recordLine columns) ⌝ }
+    ensures { λ _. ⌜ now (out .exit) ≡ bufferAt (now (out .entry)) at (recordLine columns) ⌝ }
 {
-    let count = record_line_length(
-        number,
-        first_us,
-        origin,
-        frequency_uhz,
-        frequency_rate_units,
-    );
-    if room(out.len(), at, count) {
-        Put::Next(write_record_line(
-            out,
-            at,
-            number,
-            first_us,
-            origin,
-            frequency_uhz,
-            frequency_rate_units,
-        ))
-    } else {
-        Put::Full
-    }
+    let mut line = [0u8; LONGEST_LINE];
+    let length = write_record_line(&mut line, 0, columns);
+    put_text(out, at, &line[..length])
 }
 
-pub fn put_refused_line(out: &mut [u8], at: usize, number: u64) -> Put
-    ensures { λ r. ⌜ shown r ≡ putText (now (out .entry)) at (refusedLine number) ⌝ }
-    ensures { λ _. ⌜ now (out .exit) ≡ textAfter (now (out .entry)) at (refusedLine number) ⌝ }
+pub fn put_refused_line(out: &mut [u8], at: usize, number: u64) -> TextAnswer
+    ensures { λ r. ⌜ shownText r ≡ answerAt (now (out .entry)) at (refusedLine number) ⌝ }
+    ensures { λ _. ⌜ now (out .exit) ≡ bufferAt (now (out .entry)) at (refusedLine number) ⌝ }
 {
-    if room(out.len(), at, refused_line_length(number)) {
-        Put::Next(write_refused_line(out, at, number))
-    } else {
-        Put::Full
-    }
+    let mut line = [0u8; LONGEST_LINE];
+    let length = write_refused_line(&mut line, 0, number);
+    put_text(out, at, &line[..length])
 }

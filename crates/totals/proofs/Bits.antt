@@ -52,5 +52,10 @@ pub widens : (w : Width) {z : ℤ} → SFits w z → SFits w8 z → toZ w (ofZ w
 widens w {z} k h = ap (λ (y : ℤ). toZ w (ofZ w y)) (toZ-ofZ h) ∙ toZ-ofZ k
 
 -- a test of two numbers' bits is the test of the numbers
-pub tested : {a b : ℤ} {t : Bool} → SFits w8 a → SFits w8 b → ltZ (toZ w8 (ofZ w8 a)) (toZ w8 (ofZ w8 b)) ≡ t → ltZ a b ≡ t
+tested : {a b : ℤ} {t : Bool} → SFits w8 a → SFits w8 b → ltZ (toZ w8 (ofZ w8 a)) (toZ w8 (ofZ w8 b)) ≡ t → ltZ a b ≡ t
 tested {a} {b} ha hb e = rw (toZ-ofZ ha, toZ-ofZ hb) at e
+
+-- one of two numbers, z, that the test gives
+pub picked : {a b z : ℤ} {t : Bool} → SFits w8 a → SFits w8 b → SFits w8 z → ltZ (toZ w8 (ofZ w8 a)) (toZ w8 (ofZ w8 b)) ≡ t
+    → (x y : ℤ) → z ≡ cond t x y → toZ w8 (ofZ w8 z) ≡ cond (ltZ a b) x y
+picked fa fb fz e x y q = toZ-ofZ fz ∙ q ∙ sym (ap (λ (s : Bool). cond s x y) (tested fa fb e))

@@ -43,5 +43,6 @@ tab-bytes rule h k (suc n) = (h k, tab-bytes rule h (suc k) n)
 pub samples-bytes : (stretch : List ℕ) (channel n : ℕ) → Bytes (samplesOf stretch channel n)
 samples-bytes stretch channel n = tab-bytes (sampleOf stretch channel) (λ k. signed-fits _) 0 n
 
-pub samples-more : (stretch : List ℕ) (channel n : ℕ) → samplesOf stretch channel (suc n) ≡ samplesOf stretch channel n ++ sampleOf stretch channel n ∷ []
+pub samples-more : (stretch : List ℕ) (channel n : ℕ)
+    → samplesOf stretch channel (suc n) ≡ samplesOf stretch channel n ++ sampleOf stretch channel n ∷ []
 samples-more stretch channel n = tab-more (sampleOf stretch channel) 0 n ∙ ap (λ (j : ℕ). samplesOf stretch channel n ++ sampleOf stretch channel j ∷ []) (zero-add n)

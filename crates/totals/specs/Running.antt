@@ -1,5 +1,5 @@
--- How the code counts: from a start that any sample replaces, one sample after the other (01, "The book": "a total takes one
--- sample and gives back the next total"). Only the library's own functions cite this.
+-- How the code counts: from a start that any sample replaces, a total takes one sample and gives back the next total. FORMAT,
+-- "The index of seconds". Only the library's own functions cite this.
 use Prim.Native.Nat.{ℕ, _+_, _-_, _*_, _^_, _<_}
 use mathlib.Core.List.{List, foldl}
 use lib.IntN.{ℤ, pos, negsuc, natAbs, _+ℤ_}

@@ -1,5 +1,4 @@
--- A channel's total over its samples, and the four channels' totals (01, "The book": "for each channel sum, sum of squares,
--- least and greatest over all samples"; no samples: 0 throughout).
+-- A channel's total over its samples, and the four channels' totals. FORMAT, "Samples", "The index of seconds".
 use Prim.Native.Nat.{ℕ, _+_, _*_, _/_, min}
 use mathlib.Core.Bool.{cond}
 use mathlib.Core.List.{List, [], _∷_, foldl}

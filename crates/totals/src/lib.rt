@@ -1,5 +1,5 @@
-// Totals of the four channels over a stretch of samples (01, "The book").
-
+// Totals of the four channels over a stretch of samples: for each its sum, sum of squares, least and greatest. FORMAT, "Samples",
+// "The index of seconds".
 ghost use mathlib.Core.Path.{_≡_};
 ghost use Prim.Native.Nat.{_+_, _*_, _≤_, _<_};
 ghost use lib.IntN.{natAbs};
@@ -19,6 +19,14 @@ pub struct Total {
     pub least: i8,
     pub greatest: i8,
 }
+
+// The total of no samples.
+pub const NO_TOTAL: Total = Total {
+    sum: 0,
+    squares: 0,
+    least: 0,
+    greatest: 0,
+};
 
 fn widened(sample: i8) -> i64
     ensures { λ r. ⌜ r ≡ sample ⌝ }
@@ -99,13 +107,7 @@ fn sum_sets(stretch: &[u8], count: usize) -> [Total; 4]
     ensures { λ r. ⌜ r ≡ totalsOf (now (stretch .entry)) count ⌝ }
 {
     if count == 0 {
-        let none = Total {
-            sum: 0,
-            squares: 0,
-            least: 0,
-            greatest: 0,
-        };
-        return [none; 4];
+        return [NO_TOTAL; 4];
     }
     let start = Total {
         sum: 0,
@@ -123,7 +125,7 @@ fn sum_sets(stretch: &[u8], count: usize) -> [Total; 4]
     totals
 }
 
-// The totals of channels 1 to 4 over a stretch of samples; of more than 65,536 samples a channel, the first ones.
+// The totals of channels 1 to 4 over a stretch of samples; of more than one call takes, the first ones.
 pub fn stretch_totals(stretch: &[u8]) -> [Total; 4]
     ensures { λ r. ⌜ r ≡ totalsOf (now (stretch .entry)) (setCount (now (stretch .entry))) ⌝ }
 {

@@ -1,4 +1,3 @@
--- One of the four channels, or nothing. Assumes nothing.
 use Prim.Native.Nat.{_/_, min}
 use mathlib.Core.Path.{ap, sym, _∙_}
 use mathlib.Core.Bool.{Bool, cond}
@@ -20,9 +19,6 @@ returns c =
     let rule = sampleOf (now (a .stretch)) (a .channel) in
     sym (ap (λ (t : Bool). over (now (a .out)) rule (cond t 0 (min (length (now (a .stretch)) / 4) (length (now (a .out)))))) (c .if1 .taken) ∙ over-none (now (a .out)) rule)
 
-lesser-requires : tie.Need-lesser-requires
-lesser-requires c κs = search needs
-
 copy-channel-requires : tie.Need-copy-channel-requires
 copy-channel-requires c κs =
     let s = c .before in
@@ -33,9 +29,6 @@ copy-channel-requires c κs =
       (ltb-false (a .channel) 1 (n .0), ltb-false 4 (a .channel) (n .1)),
       (stretch-has bytes places (s .lesser .result) (s .lesser .ensures), buffer-holds bytes places (s .lesser .result) (s .lesser .ensures)),
     )
-
-same-length : tie.Need-same-length
-same-length c = search needs
 
 returns-2 : tie.Need-returns-2
 returns-2 c =
@@ -48,5 +41,4 @@ returns-2 c =
     ∙ sym (ap (λ (t : Bool). over (now (a .out)) rule (cond t 0 (min (length (now (a .stretch)) / 4) (length (now (a .out)))))) (s .before .if1 .left))
 
 pub demultiplex-spec : {M : Type 1} → statement M
-demultiplex-spec =
-    tie.close (tie.spec returns lesser-requires copy-channel-requires same-length returns-2)
+demultiplex-spec = tie.close (tie.spec returns (λ c κs. search needs) copy-channel-requires (λ c. search needs) returns-2)

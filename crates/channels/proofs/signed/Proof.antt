@@ -1,4 +1,3 @@
--- `channels::signed` meets its contract: below 128 the byte itself, from 128 up the complement of its complement. Assumes nothing.
 use Prim.Native.Nat.{_-_}
 use mathlib.Core.Path.{_∙_, sym}
 use native.Mathlib.Omega.{arith}
@@ -10,17 +9,8 @@ use Rattle.channels.proofs.Sign.{signed-low, signed-high}
 use Rattle.channels.proofs.signed.Statement.{statement}
 use Rattle.channels.proofs.signed.Tie as tie
 
-cast-result : tie.Need-cast-result
-cast-result c = search needs
-
 returns : tie.Need-returns
 returns c = toZ-pos w8 (c .before .args .byte) (omega arith) ∙ sym (signed-low (c .before .args .byte) (omega arith))
-
-sub-result : tie.Need-sub-result
-sub-result c = search needs
-
-cast-result-2 : tie.Need-cast-result-2
-cast-result-2 c = search needs
 
 sub-result-2 : tie.Need-sub-result-2
 sub-result-2 c = complement-fits (255 - c .before .args .byte) (omega arith)
@@ -31,5 +21,4 @@ returns-2 c =
     toZ-ofZ w8 _ (complement-fits n (omega arith)) ∙ complement-of n (omega arith) ∙ sym (signed-high (c .before .args .byte) (omega arith))
 
 pub signed-spec : {M : Type 1} → statement M
-signed-spec =
-    tie.close (tie.spec cast-result returns sub-result cast-result-2 sub-result-2 returns-2)
+signed-spec = tie.close (tie.spec (λ c. search needs) returns (λ c. search needs) (λ c. search needs) sub-result-2 returns-2)

@@ -1,5 +1,3 @@
--- `channels::unsigned` meets its contract: a sample from 0 up is its byte, and of a negative one the complement is 255 less its byte.
--- Assumes nothing.
 use Prim.Native.Nat.{ℕ, _-_, _<_}
 use mathlib.Core.Path.{_≡_, ap, sym, _∙_, subst}
 use native.Mathlib.Omega.{arith}
@@ -55,5 +53,4 @@ returns-2 c =
     omega (arith, ap natAbs (back _ (255 - byteOf (c .before .args .sample)) (h .0) (omega arith)))
 
 pub unsigned-spec : {M : Type 1} → statement M
-unsigned-spec =
-    tie.close (tie.spec cast-result returns sub-result cast-result-2 sub-result-2 returns-2)
+unsigned-spec = tie.close (tie.spec cast-result returns sub-result cast-result-2 sub-result-2 returns-2)

@@ -1,61 +1,48 @@
--- The answers in the order of checking. Assumes nothing.
-use mathlib.Core.Path.{sym, _∙_}
-use native.Mathlib.Omega.{arith}
+use mathlib.Core.Path.{ap, subst, _∙_}
+use mathlib.Core.List.{List}
+use Prim.Native.Nat.{ℕ}
 use denote.Ref.{now}
 use borrow.Author.Needs.{needs}
-use Rattle.listing.specs.Listing.{recordText, lineRefusal}
-use Rattle.listing.proofs.Answers.{text-refused, text-written, too-short, has-room, record-refused, record-accepted}
+use Rattle.text.specs.declared.Columns.{Columns}
+use Rattle.text.specs.Placed.{answerAt, bufferAt}
+use Rattle.text.specs.Text.{recordLine}
+use Rattle.listing.specs.Listing.{recordText, textAnswer, bufferAfter}
+use Rattle.listing.proofs.Answers.{from-start, record-refused, record-accepted}
 use Rattle.listing.proofs.record_line.Statement.{statement}
 use Rattle.listing.proofs.record_line.Tie as tie
 
-refusal-of-requires : tie.Need-refusal-of-requires
-refusal-of-requires c κs = search needs
-
 returns : tie.Need-returns
 returns c =
-    let t = c .before in
-    let a = t .before .before .before .args in
-    let b = now (a .bytes) in
-    let out = now (a .out) in
-    text-refused (lineRefusal b out) out (recordText b) (record-refused b out (t .refusal-of .ensures) (c .if1 .taken)) (c .if1 .taken)
-
-text-length-requires : tie.Need-text-length-requires
-text-length-requires c κs = search needs
+    let k = c .before in
+    let a = k .before .before .before .args in
+    record-refused (now (a .bytes)) (now (a .out)) (k .refusal-of .ensures) (c .if1 .taken)
 
 returns-2 : tie.Need-returns-2
+unfolding recordText
 returns-2 c =
-    let t = c .before .before .before in
-    let a = t .before .before .before .args in
+    let p = c .before .before .before in
+    let r = p .before in
+    let t = r .before .before in
+    let k = t .before in
+    let a = k .before .before .before .args in
     let b = now (a .bytes) in
     let out = now (a .out) in
-    let j = record-accepted b out (t .refusal-of .ensures) (c .before .before .if1 .left) in
-    text-refused (lineRefusal b out) out (recordText b) (too-short out (recordText b) (c .before .text-length .ensures) (omega arith) ∙ sym j) (λ z. omega (arith, z))
-
-write-text-requires : tie.Need-write-text-requires
-write-text-requires c κs = search needs
-
-same-length : tie.Need-same-length
-same-length c = search needs
-
-returns-3 : tie.Need-returns-3
-returns-3 c =
-    let l = c .before .before .before .before in
-    let t = l .before .before .before in
-    let a = t .before .before .before .args in
-    let b = now (a .bytes) in
-    let out = now (a .out) in
-    let j = record-accepted b out (t .refusal-of .ensures) (l .before .before .if1 .left) in
-    let count = l .before .text-length .ensures in
-    text-written (lineRefusal b out) out (recordText b) (j ∙ has-room out (recordText b) count (omega arith)) count (omega arith) (c .before .before .write-text .ensures .buffer)
+    let put = p .put-record-line .ensures in
+    let text = recordText b in
+    let said = from-start out text
+    (c .list-answer .ensures ∙ put .0 ∙ ap (λ (x : Columns). answerAt out 0 (recordLine x)) (r .read-columns .ensures))
+    (put .1 ∙ ap (λ (x : Columns). bufferAt out 0 (recordLine x)) (r .read-columns .ensures)) in
+    let same = record-accepted b out (k .refusal-of .ensures) (t .if1 .left) in
+    (said .0 ∙ ap (λ (n : ℕ). textAnswer n text) same, said .1 ∙ ap (λ (n : ℕ). bufferAfter n out text) same)
 
 pub record-line-spec : {M : Type 1} → statement M
 record-line-spec =
     tie.close
     (tie.spec
-    refusal-of-requires
+    (λ c κs. search needs)
     returns
-    text-length-requires
-    returns-2
-    write-text-requires
-    same-length
-    returns-3)
+    (λ c κs. search needs)
+    (λ c κs. search needs)
+    (λ c κs. search needs)
+    (λ c. search needs)
+    returns-2)

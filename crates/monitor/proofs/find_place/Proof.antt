@@ -48,4 +48,7 @@ returns-4 c =
     (k .0 ∙ ap (rowAnswer (now (a .this)) (now (a .earlier))) (r .segment-row .ensures .0), k .1)
 
 pub find-place-spec : {M : Type 1} → statement M
-find-place-spec = tie.close (tie.spec (λ c κs. search needs) returns (λ c κs. search needs) returns-2 (λ c κs. search needs) returns-3 (λ c κs. search needs) returns-4)
+find-place-spec =
+    tie.close
+    (tie.spec (λ c κs. search needs) returns (λ c κs. search needs) returns-2 (λ c κs. search needs) returns-3
+    (λ c κs. search needs) returns-4)

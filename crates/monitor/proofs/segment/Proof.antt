@@ -26,9 +26,7 @@ returns-3 c =
 pub segment-spec : {M : Type 1} → statement M
 segment-spec =
     tie.close
-    (tie.spec
-    (λ c κs. search needs)
-    (λ c. search needs)
+    (tie.spec (λ c κs. search needs) (λ c. search needs)
     (λ c. inside-at _ _ (c .before .start .given .1) (c .before .before .before .find-place .ensures .1) .0)
     (λ c. inside-at _ _ (c .before .start .given .1) (c .before .before .before .find-place .ensures .1) .0)
     (λ c. inside-at _ _ (c .before .start .given .1) (c .before .before .before .find-place .ensures .1) .1)
@@ -36,10 +34,4 @@ segment-spec =
     (λ c. inside-at _ _ (c .before .start2 .given .1) (c .before .before .before .find-place .ensures .1) .0)
     (λ c. inside-at _ _ (c .before .start2 .given .1) (c .before .before .before .find-place .ensures .1) .0)
     (λ c. inside-at _ _ (c .before .start2 .given .1) (c .before .before .before .find-place .ensures .1) .1)
-    (λ c. search needs)
-    (λ c. search needs)
-    (λ c. search needs)
-    (λ c. search needs)
-    returns
-    returns-2
-    returns-3)
+    (λ c. search needs) (λ c. search needs) (λ c. search needs) (λ c. search needs) returns returns-2 returns-3)

@@ -24,4 +24,5 @@ returns-3 c =
 
 pub segment-refusal-spec : {M : Type 1} → statement M
 segment-refusal-spec =
-    tie.close (tie.spec (λ c κs. search needs) (λ c. search needs) (λ c. search needs) (λ c. search needs) returns returns-2 returns-3)
+    tie.close
+    (tie.spec (λ c κs. search needs) (λ c. search needs) (λ c. search needs) (λ c. search needs) returns returns-2 returns-3)

@@ -7,8 +7,8 @@ use borrow.Author.Needs.{needs}
 use Rattle.odr.proofs.odr_step.Statement.{statement}
 use Rattle.odr.proofs.odr_step.Tie as tie
 
-peek-requires : tie.Need-peek-requires
-peek-requires c κs = search needs
+step-by-reader-requires : tie.Need-step-by-reader-requires
+step-by-reader-requires c κs = search needs
 
 enum-known-start : tie.Need-enum-known-start
 enum-known-start c = search needs
@@ -21,24 +21,24 @@ enum-known-answer c = search needs
 
 returns : tie.Need-returns
 returns c =
-    let e = in-case shownStep (c .before .before .before .peek .ensures) (c .before .start .given .1) in
+    let e = in-case shownStep (c .before .before .before .step-by-reader .ensures) (c .before .start .given .1) in
     record { number = ap stepNumber e; start = ap stepStart e; end = ap stepEnd e }
 
 returns-2 : tie.Need-returns-2
 returns-2 c =
-    let e = in-case shownStep (c .before .before .peek .ensures) (c .enum-told .given .1) in
+    let e = in-case shownStep (c .before .before .step-by-reader .ensures) (c .enum-told .given .1) in
     record { number = ap stepNumber e; start = ap stepStart e; end = ap stepEnd e }
 
 returns-3 : tie.Need-returns-3
 returns-3 c =
-    let e = in-case shownStep (c .before .before .before .peek .ensures) (c .before .answer .given .1) in
+    let e = in-case shownStep (c .before .before .before .step-by-reader .ensures) (c .before .answer .given .1) in
     record { number = ap stepNumber e; start = ap stepStart e; end = ap stepEnd e }
 
 pub odr-step-spec : {M : Type 1} → statement M
 odr-step-spec =
     tie.close
     (tie.spec
-    peek-requires
+    step-by-reader-requires
     enum-known-start
     enum-told
     enum-known-answer

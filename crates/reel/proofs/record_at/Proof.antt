@@ -1,5 +1,5 @@
 -- The bytes of each case of the step; a record lies within its reel. Assumes nothing.
-use mathlib.Core.Path.{_≡_, ap, sym, subst, _∙_}
+use mathlib.Core.Path.{_≡_, ap, sym, _∙_}
 use mathlib.Core.List.{List}
 use Prim.Native.Nat.{ℕ, _≤_}
 use native.Mathlib.Omega.{arith}
@@ -9,7 +9,7 @@ use Rattle.reel.specs.declared.Step.{Step}
 use Rattle.reel.specs.declared.Step.the-variants.{Record}
 use Rattle.reel.specs.Reel.{Found, stepAt, bytesFound, recordAt}
 use Rattle.reel.specs.Shown.{shownStep}
-use Rattle.reel.proofs.Place.{Stands, Told, told}
+use Rattle.reel.proofs.Place.{stands-at}
 use borrow.Author.Needs.{needs}
 use Rattle.reel.proofs.record_at.Statement.{statement}
 use Rattle.reel.proofs.record_at.Tie as tie
@@ -20,7 +20,7 @@ bytes reel place s r e is = ap (λ (f : Found). bytesFound f reel) (ap shownStep
 
 within : (reel : List ℕ) (place : ℕ) (s : Step) (start end : ℕ) → shownStep s ≡ stepAt reel place → s ≡ Record start end → (start ≤ end) × (end ≤ length reel)
 within reel place s start end e is =
-    let t : Stands reel place start end = subst (Told reel place) (sym (ap shownStep (sym is) ∙ e)) (told reel place) in
+    let t = stands-at reel place start end (sym e ∙ ap shownStep is) in
     (omega (arith, t .header), t .inside)
 
 step-at-requires : tie.Need-step-at-requires

@@ -9,43 +9,41 @@ use lib.Seq.{length-take-le}
 use denote.Ref.{now}
 use borrow.Author.Tests.{lt-ltb, le-ltb}
 use Rattle.answers.specs.Refusal.{_when_, first, _then_}
+use Rattle.header.specs.Format.{headerBytes}
 use Rattle.record.specs.Record.{recordRefusal}
-use Rattle.reel.specs.Reel.{wordThree, restChecks, restRefusal}
+use Rattle.reel.specs.Reel.{headerWords, wordsIn, restChecks, restRefusal}
 use borrow.Author.Needs.{needs}
 use Rattle.reel.proofs.rest_refusal.Statement.{statement}
 use Rattle.reel.proofs.rest_refusal.Tie as tie
 
 -- the definition at the word w that was read
-module _ (rest : List ℕ) (w : ℕ) (e : w ≡ wordThree rest) where
+module _ (rest : List ℕ) (w : ℕ) (e : w ≡ wordsIn rest) where
   read : first (restChecks (length rest) w) then recordRefusal (take (2 * w) rest) ≡ restRefusal rest
   unfolding restRefusal
   read = ap (λ (v : ℕ). first (restChecks (length rest) v) then recordRefusal (take (2 * v) rest)) e
 
   -- by what the two tests of the code told
-  by-tests : (a b : Bool) → ltb (length rest) 80 || ltb w 40 ≡ a → ltb (length rest) (2 * w) ≡ b
+  by-tests : (a b : Bool) → ltb (length rest) headerBytes || ltb w headerWords ≡ a → ltb (length rest) (2 * w) ≡ b
       → first (1 when a ∷ 2 when b ∷ []) then recordRefusal (take (2 * w) rest) ≡ restRefusal rest
   by-tests a b p q = sym (λ i. first (1 when p i ∷ 2 when q i ∷ []) then recordRefusal (take (2 * w) rest)) ∙ read
 
-word-3-requires : tie.Need-word-3-requires
-word-3-requires c κs = search needs
-
 returns : tie.Need-returns
 returns c =
-    let k = c .before in
-    by-tests (now (k .before .before .args .rest)) (k .word-3 .result) (k .word-3 .ensures .0) true _ (c .if1 .taken) refl
+    let k = c .before .before in
+    by-tests (now (k .args .rest)) (k .args .words) (k .pre .0) true _ (c .if1 .taken) refl
 
 mul-size : tie.Need-mul-size
 mul-size c = search needs
 
 returns-2 : tie.Need-returns-2
 returns-2 c =
-    let k = c .before .before in
-    by-tests (now (k .before .before .args .rest)) (k .word-3 .result) (k .word-3 .ensures .0) false true (c .before .if1 .left) (lt-ltb _ _ (c .if2 .taken))
+    let k = c .before .before .before in
+    by-tests (now (k .args .rest)) (k .args .words) (k .pre .0) false true (c .before .if1 .left) (lt-ltb _ _ (c .if2 .taken))
 
 slice-aggregate-refusal-of : tie.Need-slice-aggregate-refusal-of
 slice-aggregate-refusal-of c =
-    let k = c .before .before .before in
-    sym (length-take-le (2 * k .word-3 .result) (now (k .before .before .args .rest)) (c .before .if2 .left))
+    let k = c .before .before .before .before in
+    sym (length-take-le (2 * k .args .words) (now (k .args .rest)) (c .before .if2 .left))
 
 refusal-of-requires : tie.Need-refusal-of-requires
 refusal-of-requires c κs = search needs
@@ -53,11 +51,10 @@ refusal-of-requires c κs = search needs
 returns-3 : tie.Need-returns-3
 returns-3 c =
     let l = c .before .before in
-    let k = l .before .before in
+    let k = l .before .before .before in
     c .refusal-of .ensures
-    ∙ by-tests (now (k .before .before .args .rest)) (k .word-3 .result) (k .word-3 .ensures .0) false false (l .before .if1 .left) (le-ltb _ _ (l .if2 .left))
+    ∙ by-tests (now (k .args .rest)) (k .args .words) (k .pre .0) false false (l .before .if1 .left) (le-ltb _ _ (l .if2 .left))
 
 pub rest-refusal-spec : {M : Type 1} → statement M
 rest-refusal-spec =
-    tie.close
-    (tie.spec word-3-requires returns mul-size returns-2 slice-aggregate-refusal-of refusal-of-requires returns-3)
+    tie.close (tie.spec returns mul-size returns-2 slice-aggregate-refusal-of refusal-of-requires returns-3)

@@ -33,8 +33,11 @@ returns-2 c =
     let b = now (a .before .before .args .bytes) in
     let e = s .sample-stretch .ensures in
     let z = sym (a .refusal-of .ensures) ∙ s .before .if1 .left in
-    ap (λ (t : List Total). accepted t) (c .stretch-totals .ensures ∙ (λ i. totalsOf (e i) (setCount (e i))) ∙ whole-totals b (accepted-inside b z))
+    ap (λ (t : List Total). accepted t)
+    (c .stretch-totals .ensures ∙ (λ i. totalsOf (e i) (setCount (e i))) ∙ whole-totals b (accepted-inside b z))
     ∙ unless-none (recordRefusal b) noTotals (totalsOf (stretchOf b) (sampleCount b)) z
 
 pub record-totals-spec : {M : Type 1} → statement M
-record-totals-spec = tie.close (tie.spec (λ c κs. search needs) (λ c κs. search needs) returns (λ c κs. search needs) (λ c κs. search needs) returns-2)
+record-totals-spec =
+    tie.close
+    (tie.spec (λ c κs. search needs) (λ c κs. search needs) returns (λ c κs. search needs) (λ c κs. search needs) returns-2)

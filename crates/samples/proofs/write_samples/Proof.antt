@@ -27,8 +27,11 @@ returns-2 : tie.Need-returns-2
 returns-2 c =
     let j = c .before in
     let s = j .before .before in
-    (j .judge .ensures ∙ judged-by-count _ _ _ _ _ (s .sample-count .ensures .0), record-kept _ (now (s .before .before .before .args .bytes)) (c .if1 .left) _ _ _ _)
+    let b = now (s .before .before .before .args .bytes) in
+    (j .judge .ensures ∙ judged-by-count _ _ _ _ _ (s .sample-count .ensures .0), record-kept _ b (c .if1 .left) _ _ _ _)
 
 pub write-samples-spec : {M : Type 1} → statement M
 write-samples-spec =
-    tie.close (tie.spec (λ c κs. search needs) (λ c κs. search needs) (λ c. search needs) (λ c. search needs) (λ c. search needs) (λ c. search needs) part-multiplex-end (λ c κs. search needs) (λ c. search needs) returns (λ c. search needs) returns-2)
+    tie.close
+    (tie.spec (λ c κs. search needs) (λ c κs. search needs) (λ c. search needs) (λ c. search needs) (λ c. search needs)
+    (λ c. search needs) part-multiplex-end (λ c κs. search needs) (λ c. search needs) returns (λ c. search needs) returns-2)

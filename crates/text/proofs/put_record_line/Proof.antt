@@ -1,71 +1,70 @@
--- `text::put_record_line` meets its contract: the line is judged by its length, then written. Assumes nothing.
-use mathlib.Core.Path.{_≡_, ap, _∙_}
+-- The line is written to a buffer of its own, which holds any, and put into the lent one. Assumes nothing.
+use mathlib.Core.Path.{_≡_, ap, sym, _∙_}
 use mathlib.Core.List.{List}
-use Prim.Native.Nat.{ℕ}
+use Prim.Native.Nat.{ℕ, _≤_}
 use native.Mathlib.Omega.{arith}
-use lib.IntN.{ℤ}
-use lib.ListN.{length}
-use mir.Facts.{toZ-ofZ}
-use mir.Syntax.{w64}
-use mir.Val.{toZ, ofZ}
+use lib.ListN.{length, take}
+use lib.Seq.{length-sets, length-take-le}
 use borrow.Author.Needs.{needs}
-use Rattle.text.proofs.Writing.{written-as}
+use Rattle.answers.specs.Answer.{Answer}
 use Rattle.text.specs.Text.{recordLine}
-use Rattle.text.proofs.Line.{record-parts}
-use Rattle.text.proofs.Judging.{has-room, put-next, put-full}
+use Rattle.text.specs.Placed.{answerAt, bufferAt}
+use Rattle.text.proofs.Line.{word-line}
+use Rattle.text.proofs.Judging.{front}
 use Rattle.text.proofs.put_record_line.Statement.{statement}
 use Rattle.text.proofs.put_record_line.Tie as tie
 
-abbrev entry : tie.After-room → tie.Start
-entry r = r .before .before .before
+-- any line fits
+small : (a : tie.Start) → length (recordLine (a .args .columns)) ≤ 107
+small a = let f = a .good .1 .1 .0 .1 .1 in word-line (a .args .columns) (f .0 .1) (f .1 .0 .1) (f .1 .1 .0 .1) (f .1 .1 .1 .0 .1) (f .1 .1 .1 .1 .0 .1)
 
-abbrev line : tie.After-room → ℤ → List ℕ
-line r z = let a = entry r .args in recordLine (a .number) (a .first-us) (a .origin) (a .frequency-uhz) z
-
--- the callees get the rate as it is read of its bits
-same-line : (r : tie.After-room) → line r (toZ w64 (ofZ w64 (entry r .args .frequency-rate-units))) ≡ line r (entry r .args .frequency-rate-units)
-same-line r = ap (line r) (toZ-ofZ (entry r .fits .frequency-rate-units))
-
-counted : (r : tie.After-room) → r .before .record-line-length .result ≡ length (line r (entry r .args .frequency-rate-units))
-counted r = r .before .record-line-length .ensures ∙ ap length (same-line r)
-
-record-line-length-requires : tie.Need-record-line-length-requires
-record-line-length-requires c κs = search needs
-
-room-requires : tie.Need-room-requires
-room-requires c κs = search needs
+slice-aggregate-write-record-line : tie.Need-slice-aggregate-write-record-line
+slice-aggregate-write-record-line c = search needs
 
 write-record-line-requires : tie.Need-write-record-line-requires
-write-record-line-requires c κs =
-    let r = c .before .before in
-    let a = entry r .args in
-    let parts = record-parts (a .number) (a .first-us) (a .origin) (a .frequency-uhz) (toZ w64 (ofZ w64 (a .frequency-rate-units))) in
-    omega (arith, has-room (a .out .now) (a .at) (line r (a .frequency-rate-units)) (counted r) (r .room .ensures) (c .before .if1 .taken), ap length (same-line r), parts)
+write-record-line-requires c κs = record { enough = omega (arith, small (c .before .before)) }
+
+-- what was written
+module _ (c : tie.After-write-record-line) where
+  abbrev entry : tie.Start
+  entry = c .before .before .before
+
+  abbrev line : List ℕ
+  line = recordLine (entry .args .columns)
+
+  inside : c .write-record-line .result ≤ length (c .write-record-line .last .0)
+  inside = omega (arith, small entry, c .write-record-line .ensures .place, c .write-record-line .kept .0)
+
+  written : take (c .write-record-line .result) (c .write-record-line .last .0) ≡ line
+  written = front (omega (arith, small entry)) (c .write-record-line .ensures)
+
+array-share-prefix-line : tie.Need-array-share-prefix-line
+array-share-prefix-line c = inside (c .before .before)
+
+slice-aggregate-put-text : tie.Need-slice-aggregate-put-text
+slice-aggregate-put-text c = sym (length-take-le _ _ (inside (c .before .before .before)))
+
+put-text-requires : tie.Need-put-text-requires
+put-text-requires c κs = search needs
 
 same-length : tie.Need-same-length
 same-length c = search needs
 
 returns : tie.Need-returns
 returns c =
-    let t = c .before .before .before .before in
-    let r = t .before in
-    let a = entry r .args in
-    put-next (a .out .now) (a .at) (line r (a .frequency-rate-units)) (counted r) (r .room .ensures) (t .if1 .taken)
-    (written-as (same-line r) (c .before .before .write-record-line .ensures))
-
-returns-2 : tie.Need-returns-2
-returns-2 c =
-    let r = c .before in
-    let a = entry r .args in
-    put-full (a .out .now) (a .at) (line r (a .frequency-rate-units)) (counted r) (r .room .ensures) (c .if1 .left)
+    let put = c .before .before in
+    let w = put .before .before .before .before in
+    let a = entry w .args in
+    (put .put-text .ensures .0 ∙ ap (answerAt (a .out .now) (a .at)) (written w), put .put-text .ensures .1 ∙ ap (bufferAt (a .out .now) (a .at)) (written w))
 
 pub put-record-line-spec : {M : Type 1} → statement M
 put-record-line-spec =
     tie.close
     (tie.spec
-    record-line-length-requires
-    room-requires
+    slice-aggregate-write-record-line
     write-record-line-requires
+    array-share-prefix-line
+    slice-aggregate-put-text
+    put-text-requires
     same-length
-    returns
-    returns-2)
+    returns)

@@ -1,16 +1,15 @@
--- `text::write_column` meets its contract. Assumes nothing.
 use mathlib.Core.Path.{refl}
-use native.Mathlib.Omega.{arith}
 use borrow.Author.Needs.{needs}
-use Rattle.text.proofs.Writing.{written-both}
+use Rattle.text.specs.Number.{ascii}
+use Rattle.text.proofs.Writing.{room-first, room-rest, written-both}
 use Rattle.text.proofs.write_column.Statement.{statement}
 use Rattle.text.proofs.write_column.Tie as tie
 
 write-decimal-requires : tie.Need-write-decimal-requires
-write-decimal-requires c κs = search needs
+write-decimal-requires c κs = room-first (ascii ",") refl (c .before .before .pre)
 
 write-byte-requires : tie.Need-write-byte-requires
-write-byte-requires c κs = search needs
+write-byte-requires c κs = let n = c .before .before .before in room-rest refl (n .before .before .before .pre) (n .write-decimal .ensures)
 
 same-length : tie.Need-same-length
 same-length c = search needs
@@ -18,9 +17,7 @@ same-length c = search needs
 returns : tie.Need-returns
 returns c =
     let comma = c .before .before in
-    let number = comma .before .before .before .before in
-    (written-both refl (number .write-decimal .ensures) (comma .write-byte .ensures), omega arith)
+    written-both refl (comma .before .before .before .before .write-decimal .ensures) (comma .write-byte .ensures)
 
 pub write-column-spec : {M : Type 1} → statement M
-write-column-spec =
-    tie.close (tie.spec write-decimal-requires write-byte-requires same-length returns)
+write-column-spec = tie.close (tie.spec write-decimal-requires write-byte-requires same-length returns)

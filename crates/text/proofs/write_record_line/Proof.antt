@@ -1,85 +1,94 @@
--- `text::write_record_line` meets its contract: seven texts, one behind the other. Assumes nothing.
-use mathlib.Core.Path.{refl, sym, ap}
-use mathlib.Core.List.{append-assoc, _++_}
-use Prim.Native.Nat.{_+_, _≤_}
-use native.Mathlib.Omega.{arith}
-use lib.ListN.{length}
-use Rattle.text.specs.Number.{ascii, decimalText, signedFixed}
-use Rattle.text.specs.Text.{recordLine}
-use Rattle.text.proofs.Signs.{signed-read}
-use Rattle.text.proofs.Writing.{written-both, written-as}
+-- Five columns, one behind the other: what is left of the room after each is room for the rest. Assumes nothing.
+use mathlib.Core.Path.{_≡_, refl, ap}
+use mathlib.Core.List.{List, _++_}
+use Prim.Native.Nat.{ℕ}
+use mir.Facts.{toZ-ofZ}
+use mir.Syntax.{w64}
+use mir.Val.{toZ, ofZ}
+use borrow.Author.Needs.{needs}
+use Rattle.text.specs.declared.Columns.{Columns}
+use Rattle.text.specs.Text.{column, frequencyColumn, rateColumn, recordLine}
+use Rattle.text.specs.Writing.{Room}
+use Rattle.text.proofs.Writing.{room-first, room-rest, room-as, written-both, written-as}
 use Rattle.text.proofs.write_record_line.Statement.{statement}
 use Rattle.text.proofs.write_record_line.Tie as tie
 
--- the places behind a text, back from the comma before the rate
-abbrev frequency : tie.After-write-byte → tie.After-write-fixed
-frequency c = c .before .before .before .before
+-- the columns from the second, third and fourth on
+abbrev from-fourth : Columns → List ℕ
+from-fourth c = frequencyColumn (c .«frequency_uhz») ++ rateColumn (c .«frequency_rate_units»)
 
-abbrev origin : tie.After-write-byte → tie.After-write-column3
-origin c = frequency c .before .before .before .before
+abbrev from-third : Columns → List ℕ
+from-third c = column (c .origin) ++ from-fourth c
 
-abbrev first : tie.After-write-byte → tie.After-write-column2
-first c = origin c .before .before .before .before
+abbrev from-second : Columns → List ℕ
+from-second c = column (c .«first_us») ++ from-third c
 
-abbrev number : tie.After-write-byte → tie.After-write-column
-number c = first c .before .before .before .before
+abbrev entry : tie.After-write-column → tie.Start
+entry c = c .before .before .before
 
-abbrev entry : tie.After-write-byte → tie.Start
-entry c = number c .before .before .before
+abbrev first : tie.After-write-column2 → tie.After-write-column
+first c = c .before .before .before .before
 
--- there the rate and the line feed still have room
-rest : (c : tie.After-write-byte) → c .write-byte .result + (length (signedFixed 5 (entry c .args .frequency-rate-units)) + 1) ≤ length (c .write-byte .last .0)
-rest c = omega (arith, entry c .pre, number c .write-column .ensures .1, number c .write-column .kept .0, first c .write-column2 .ensures .1, first c .write-column2 .kept .0)
+abbrev second : tie.After-write-column3 → tie.After-write-column2
+second c = c .before .before .before .before
+
+abbrev third : tie.After-write-frequency → tie.After-write-column3
+third c = c .before .before .before .before
+
+-- the room behind each
+room-one : (c : tie.After-write-column) → Room (c .write-column .last .0) (c .write-column .result) (from-second (entry c .args .columns))
+unfolding recordLine
+room-one c = room-rest refl (entry c .pre) (c .write-column .ensures)
+
+room-two : (c : tie.After-write-column2) → Room (c .write-column2 .last .0) (c .write-column2 .result) (from-third (entry (first c) .args .columns))
+room-two c = room-rest refl (room-one (first c)) (c .write-column2 .ensures)
+
+room-three : (c : tie.After-write-column3) → Room (c .write-column3 .last .0) (c .write-column3 .result) (from-fourth (entry (first (second c)) .args .columns))
+room-three c = room-rest refl (room-two (second c)) (c .write-column3 .ensures)
+
+-- the rate comes to the callee as it is read of its bits
+rate-read : (c : tie.After-struct-told) → let z = entry (first (second (third (c .before .before .before .before)))) .args .columns .«frequency_rate_units» in toZ w64 (ofZ w64 z) ≡ z
+rate-read c = toZ-ofZ (record { sfits = c .struct-told .given .1 .1 .1 .1 .0 .1 })
 
 write-column-requires : tie.Need-write-column-requires
-write-column-requires c κs = omega arith
+unfolding recordLine
+write-column-requires c κs = let a = c .before .before in room-first (from-second (a .args .columns)) refl (a .pre)
 
 write-column-requires-2 : tie.Need-write-column-requires-2
-write-column-requires-2 c κs = omega arith
+write-column-requires-2 c κs =
+    let p = c .before .before .before in
+    room-first (from-third (entry p .args .columns)) refl (room-one p)
 
 write-column-requires-3 : tie.Need-write-column-requires-3
-write-column-requires-3 c κs = omega arith
+write-column-requires-3 c κs =
+    let p = c .before .before .before in
+    room-first (from-fourth (entry (first p) .args .columns)) refl (room-two p)
 
-write-fixed-requires : tie.Need-write-fixed-requires
-write-fixed-requires c κs = record { enough = omega arith }
+write-frequency-requires : tie.Need-write-frequency-requires
+write-frequency-requires c κs =
+    let p = c .before .before .before in
+    room-first (rateColumn (entry (first (second p)) .args .columns .«frequency_rate_units»)) refl (room-three p)
 
-write-byte-requires : tie.Need-write-byte-requires
-write-byte-requires c κs = record { enough = omega arith }
-
-write-signed-fixed-requires : tie.Need-write-signed-fixed-requires
-write-signed-fixed-requires c κs =
-    let comma = c .before .before .before in
-    record { enough = omega (arith, rest comma, ap length (signed-read 5 (entry comma .fits .frequency-rate-units))) }
-
-write-byte-requires-2 : tie.Need-write-byte-requires-2
-write-byte-requires-2 c κs =
-    let comma = c .before .before .before .before .before .before .before in
-    record { enough = omega (arith, rest comma, ap length (signed-read 5 (entry comma .fits .frequency-rate-units))) }
+write-rate-requires : tie.Need-write-rate-requires
+write-rate-requires c κs =
+    let p = c .before .before .before .before in
+    room-as (ap rateColumn (rate-read c)) (room-rest refl (room-three (third p)) (p .write-frequency .ensures))
 
 same-length : tie.Need-same-length
-same-length c = omega arith
+same-length c = search needs
 
 returns : tie.Need-returns
 unfolding recordLine
 returns c =
-    let rate = c .before .before .before .before .before .before in
-    let comma = rate .before .before .before .before in
-    let a = entry comma .args in
-    let one = decimalText (a .number) ++ ascii "," in
-    let two = one ++ decimalText (a .first-us) ++ ascii "," in
-    written-both refl
-    (written-both refl
-    (written-both refl
-    (written-both refl
-    (written-both (sym (append-assoc two (decimalText (a .origin)) (ascii ",")))
-    (written-both (sym (append-assoc one (decimalText (a .first-us)) (ascii ",")))
-    (number comma .write-column .ensures .0)
-    (first comma .write-column2 .ensures .0))
-    (origin comma .write-column3 .ensures .0))
-    (frequency comma .write-fixed .ensures))
-    (comma .write-byte .ensures))
-    (written-as (signed-read 5 (entry comma .fits .frequency-rate-units)) (rate .write-signed-fixed .ensures)))
-    (c .before .before .write-byte2 .ensures)
+    let rate = c .before .before in
+    let four = rate .before .before .before .before .before in
+    let three = third four in
+    let two = second three in
+    written-both refl (first two .write-column .ensures)
+    (written-both refl (two .write-column2 .ensures)
+    (written-both refl (three .write-column3 .ensures)
+    (written-both refl (four .write-frequency .ensures)
+    (written-as (ap rateColumn (rate-read (rate .before))) (rate .write-rate .ensures)))))
 
 pub write-record-line-spec : {M : Type 1} → statement M
 write-record-line-spec =
@@ -88,9 +97,7 @@ write-record-line-spec =
     write-column-requires
     write-column-requires-2
     write-column-requires-3
-    write-fixed-requires
-    write-byte-requires
-    write-signed-fixed-requires
-    write-byte-requires-2
+    write-frequency-requires
+    write-rate-requires
     same-length
     returns)

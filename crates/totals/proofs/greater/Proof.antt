@@ -1,23 +1,16 @@
--- `totals::higher` meets its contract. Assumes nothing.
-use mathlib.Core.Path.{ap, sym, _∙_}
-use mathlib.Core.Bool.{Bool, cond}
-use mir.Facts.{toZ-ofZ}
+use mathlib.Core.Path.{refl}
 use Rattle.totals.specs.Total.{greater}
-use Rattle.totals.proofs.Bits.{tested}
+use Rattle.totals.proofs.Bits.{picked}
 use Rattle.totals.proofs.greater.Statement.{statement}
 use Rattle.totals.proofs.greater.Tie as tie
 
 returns : tie.Need-returns
 unfolding greater
-returns c =
-    let s = c .before in
-    toZ-ofZ (s .fits .a) ∙ sym (ap (λ (t : Bool). cond t (s .args .a) (s .args .b)) (tested (s .fits .b) (s .fits .a) (c .if1 .taken)))
+returns c = let f = c .before .fits in picked (f .b) (f .a) (f .a) (c .if1 .taken) _ _ refl
 
 returns-2 : tie.Need-returns-2
 unfolding greater
-returns-2 c =
-    let s = c .before in
-    toZ-ofZ (s .fits .b) ∙ sym (ap (λ (t : Bool). cond t (s .args .a) (s .args .b)) (tested (s .fits .b) (s .fits .a) (c .if1 .left)))
+returns-2 c = let f = c .before .fits in picked (f .b) (f .a) (f .b) (c .if1 .left) _ _ refl
 
 pub greater-spec : {M : Type 1} → statement M
 greater-spec = tie.close (tie.spec returns returns-2)

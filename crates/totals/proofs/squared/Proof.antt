@@ -1,4 +1,3 @@
--- `totals::squared` meets its contract: the square of a signed byte fits 64 bits. Assumes nothing.
 use native.Mathlib.Omega.{arith}
 use mir.Syntax.{w64}
 use mir.Facts.{toZ-ofZ, sfits-widen}

@@ -1,5 +1,3 @@
--- `totals::sum_sets` meets its contract. The loop's invariant: the totals are the running totals of k samples a channel.
--- Assumes nothing.
 use mathlib.Core.Path.{_≡_, refl, ap, _∙_}
 use Prim.Native.Nat.{_≤_, _-_}
 use native.Mathlib.Nat.{pos-of-ne-zero}
@@ -27,12 +25,6 @@ loop-holds c = (omega arith, refl)
 with-samples-requires : tie.Need-with-samples-requires Inv-loop μ-loop
 with-samples-requires c κs = (c .before .loop .inv .1, omega arith, omega arith)
 
-add-k : tie.Need-add-k Inv-loop μ-loop
-add-k c = omega arith
-
-loop-less : tie.Need-loop-less Inv-loop μ-loop
-loop-less c = omega arith
-
 loop-again : tie.Need-loop-again Inv-loop μ-loop
 loop-again c = (omega arith, c .with-samples .ensures)
 
@@ -46,13 +38,5 @@ returns-2 c =
 pub sum-sets-spec : {M : Type 1} → statement M
 sum-sets-spec =
     tie.close
-    (tie.spec
-    Inv-loop
-    μ-loop
-    returns
-    loop-holds
-    with-samples-requires
-    add-k
-    loop-less
-    loop-again
+    (tie.spec Inv-loop μ-loop returns loop-holds with-samples-requires (λ c. omega arith) (λ c. omega arith) loop-again
     returns-2)

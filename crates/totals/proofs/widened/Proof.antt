@@ -1,4 +1,3 @@
--- `totals::widened` meets its contract: a signed byte is a signed word. Assumes nothing.
 use mir.Syntax.{w64}
 use mir.Facts.{toZ-ofZ, sfits-widen}
 use Rattle.totals.proofs.Bits.{widens}

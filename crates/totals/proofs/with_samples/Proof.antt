@@ -1,4 +1,3 @@
--- `totals::with_samples` meets its contract: channel after channel, by `taken`. Assumes nothing.
 use mathlib.Core.Path.{_≡_, sym, ap, _∙_, subst}
 use mathlib.Core.List.{List}
 use Prim.Native.Nat.{ℕ, suc, _<_}
@@ -19,40 +18,35 @@ next : {t r : List Total} (s : List ℕ) (k c : ℕ) → t ≡ taken s k c → r
 unfolding taken
 next s k c e q = q ∙ ap (λ (t : List Total). channelNext t s (suc c) k) e
 
-first : (c : tie.After-with-channel) → c .with-channel .result ≡ taken (c .before .before .args .stretch .now) (c .before .before .args .k) 1
+first : (c : tie.After-with-channel) → let a = c .before .before .args in c .with-channel .result ≡ taken (a .stretch .now) (a .k) 1
 unfolding taken
-first c = next (c .before .before .args .stretch .now) (c .before .before .args .k) 0 (c .before .before .pre .0) (c .with-channel .ensures)
+first c = next _ _ 0 (c .before .before .pre .0) (c .with-channel .ensures)
 
-second : (c : tie.After-with-channel2) → c .with-channel2 .result ≡ taken (c .before .before .before .args .stretch .now) (c .before .before .before .args .k) 2
-second c = next (c .before .before .before .args .stretch .now) (c .before .before .before .args .k) 1 (first (c .before)) (c .with-channel2 .ensures)
+second : (c : tie.After-with-channel2) → let a = c .before .before .before .args in c .with-channel2 .result ≡ taken (a .stretch .now) (a .k) 2
+second c = next _ _ 1 (first (c .before)) (c .with-channel2 .ensures)
 
-third : (c : tie.After-with-channel3) → c .with-channel3 .result ≡ taken (c .before .before .before .before .args .stretch .now) (c .before .before .before .before .args .k) 3
-third c = next (c .before .before .before .before .args .stretch .now) (c .before .before .before .before .args .k) 2 (second (c .before)) (c .with-channel3 .ensures)
+third : (c : tie.After-with-channel3) → let a = c .before .before .before .before .args in c .with-channel3 .result ≡ taken (a .stretch .now) (a .k) 3
+third c = next _ _ 2 (second (c .before)) (c .with-channel3 .ensures)
 
 with-channel-requires : tie.Need-with-channel-requires
 unfolding taken
-with-channel-requires c κs = let a = c .before in (lit≤ tt, lit≤ tt, a .pre .1, room (a .args .stretch .now) (a .args .k) 0 (a .pre .0) (a .pre .2) (lit< tt))
+with-channel-requires c κs = let p = c .before .pre in (lit≤ tt, lit≤ tt, p .1, room _ _ 0 (p .0) (p .2) (lit< tt))
 
 with-channel-requires-2 : tie.Need-with-channel-requires-2
-with-channel-requires-2 c κs = let a = c .before .before in (lit≤ tt, lit≤ tt, a .pre .1, room (a .args .stretch .now) (a .args .k) 1 (first c) (a .pre .2) (lit< tt))
+with-channel-requires-2 c κs = let p = c .before .before .pre in (lit≤ tt, lit≤ tt, p .1, room _ _ 1 (first c) (p .2) (lit< tt))
 
 with-channel-requires-3 : tie.Need-with-channel-requires-3
-with-channel-requires-3 c κs = let a = c .before .before .before in (lit≤ tt, lit≤ tt, a .pre .1, room (a .args .stretch .now) (a .args .k) 2 (second c) (a .pre .2) (lit< tt))
+with-channel-requires-3 c κs = let p = c .before .before .before .pre in (lit≤ tt, lit≤ tt, p .1, room _ _ 2 (second c) (p .2) (lit< tt))
 
 with-channel-requires-4 : tie.Need-with-channel-requires-4
-with-channel-requires-4 c κs = let a = c .before .before .before .before in (lit≤ tt, lit≤ tt, a .pre .1, room (a .args .stretch .now) (a .args .k) 3 (third c) (a .pre .2) (lit< tt))
+with-channel-requires-4 c κs =
+    let p = c .before .before .before .before .pre in
+    (lit≤ tt, lit≤ tt, p .1, room _ _ 3 (third c) (p .2) (lit< tt))
 
 returns : tie.Need-returns
-returns c =
-    let a = c .before .before .before .before .before in
-    next (a .args .stretch .now) (a .args .k) 3 (third (c .before)) (c .with-channel4 .ensures) ∙ taken-all (a .args .stretch .now) (a .args .k)
+returns c = next _ _ 3 (third (c .before)) (c .with-channel4 .ensures) ∙ taken-all _ _
 
 pub with-samples-spec : {M : Type 1} → statement M
 with-samples-spec =
     tie.close
-    (tie.spec
-    with-channel-requires
-    with-channel-requires-2
-    with-channel-requires-3
-    with-channel-requires-4
-    returns)
+    (tie.spec with-channel-requires with-channel-requires-2 with-channel-requires-3 with-channel-requires-4 returns)

@@ -1,4 +1,3 @@
--- `totals::Total::with` meets its contract: each field is the definition's, read back from its bits. Assumes nothing.
 use mathlib.Core.Path.{_≡_}
 use Prim.Native.Nat.{_*_}
 use native.Mathlib.Omega.{arith}
@@ -16,9 +15,6 @@ use Rattle.totals.proofs.Running.{room-fits, room-sum}
 use Rattle.totals.proofs.Total.with.Statement.{statement}
 use Rattle.totals.proofs.Total.with.Tie as tie
 
-widened-requires : tie.Need-widened-requires
-widened-requires c κs = search needs
-
 add-t4 : tie.Need-add-t4
 add-t4 c =
     let a = c .before .before .before in
@@ -27,20 +23,11 @@ add-t4 c =
     let f : SFits w8 x = a .fits .sample in
     rw (toZ-ofZ w64 z (room-fits (a .pre)), c .before .before .widened .ensures, toZ-ofZ w8 x f, toZ-ofZ w64 x (sfits-widen tt f)) (room-sum (a .pre) f)
 
-squared-requires : tie.Need-squared-requires
-squared-requires c κs = search needs
-
 add-t6 : tie.Need-add-t6
 add-t6 c =
     let a = c .before .before .before .before .before in
     let f : SFits w8 (a .args .sample) = a .fits .sample in
     rw (c .before .squared .ensures, toZ-ofZ w8 (a .args .sample) f) (record { fits = omega (arith, a .pre .squared, byte-square f) })
-
-lesser-requires : tie.Need-lesser-requires
-lesser-requires c κs = search needs
-
-greater-requires : tie.Need-greater-requires
-greater-requires c κs = search needs
 
 returns : tie.Need-returns
 unfolding nextOf
@@ -63,11 +50,5 @@ returns c =
 pub with-spec : {M : Type 1} → statement M
 with-spec =
     tie.close
-    (tie.spec
-    widened-requires
-    add-t4
-    squared-requires
-    add-t6
-    lesser-requires
-    greater-requires
+    (tie.spec (λ c κs. search needs) add-t4 (λ c κs. search needs) add-t6 (λ c κs. search needs) (λ c κs. search needs)
     returns)
