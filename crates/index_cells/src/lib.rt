@@ -28,11 +28,11 @@ pub fn read_cell(cells: &[u32], i: u64, j: usize) -> u32
     if place > cells.len() / WIDTH {
         return 0;
     }
-    let start = WIDTH * place;
-    if j >= cells.len() - start {
+    let from = WIDTH * place;
+    if j >= cells.len() - from {
         return 0;
     }
-    cells[start + j]
+    cells[from + j]
 }
 
 // The cells of row (or second) i of a buffer.

@@ -1,6 +1,7 @@
 // 01's "Values worked by hand" that are not marked P, run on the library: each line says what was asked and the refusal number,
 // 0 for none. Those marked P are proved in crate `worked`.
 use index_model::Opening;
+use index_model::WIDTH;
 use index_open::OpenAnswer;
 use libc::STDOUT_FILENO;
 
@@ -52,7 +53,7 @@ fn date_refusal(date: u16) -> u8 {
 }
 
 // At 200 samples a second two records fill a second: the refusals of the first, the second and the third that are put.
-fn print_puts(o: Opening, rows: &mut [u32; 60], seconds: &mut [u32; 20]) {
+fn print_puts(o: Opening, rows: &mut [u32; 3 * WIDTH], seconds: &mut [u32; WIDTH]) {
     let mut bytes = lister_case();
     print_line(
         b"record 1 of a second: ",
@@ -70,15 +71,15 @@ fn print_puts(o: Opening, rows: &mut [u32; 60], seconds: &mut [u32; 20]) {
     );
 }
 
-fn put_again(o: Opening, bytes: &[u8; 780], rows: &mut [u32; 60], seconds: &mut [u32; 20]) -> u8 {
+fn put_again(o: Opening, bytes: &[u8; 780], rows: &mut [u32; 3 * WIDTH], seconds: &mut [u32; WIDTH]) -> u8 {
     index_update::insert(o, bytes, rows, seconds)
 }
 
 // An index of one second, from noon on, for the records 1 to 3.
 fn fill_a_second() {
     let pattern = lister_case();
-    let mut rows = [7u32; 60];
-    let mut seconds = [7u32; 20];
+    let mut rows = [7u32; 3 * WIDTH];
+    let mut seconds = [7u32; WIDTH];
     match index_open::open(&pattern, 43_200, 1, 3, &mut rows, &mut seconds) {
         OpenAnswer::Opened(o) => print_puts(o, &mut rows, &mut seconds),
         OpenAnswer::Refused(n) => print_line(b"opening refused: ", n),
