@@ -26,7 +26,8 @@ module _ (out text : List ℕ) where
   )
 
   -- a text written there, where there is room
-  pub whole-text : {next : ℕ} {after : List ℕ} → length text ≤ length out → Written out 0 text next after → (next ≡ length text) × (after ≡ textOver text out)
+  pub whole-text : {next : ℕ} {after : List ℕ} → length text ≤ length out → Written out 0 text next after
+      → (next ≡ length text) × (after ≡ textOver text out)
   whole-text h w = (
     w .place ∙ zero-add (length text),
     w .buffer ∙ sets-eq text out 0 (omega arith) ∙ ap (λ (k : ℕ). text ++ drop k out) (zero-add (length text)),
@@ -34,7 +35,8 @@ module _ (out text : List ℕ) where
 
 -- 1 to 11 come before 21
 module _ (b out : List ℕ) {n : ℕ} (e : n ≡ recordRefusal b) where
-  pub record-refused : (n ≡ 0 → ⊥) → (refused 0 n ≡ textAnswer (lineRefusal b out) (recordText b)) × (out ≡ bufferAfter (lineRefusal b out) out (recordText b))
+  pub record-refused : (n ≡ 0 → ⊥) → (refused 0 n ≡ textAnswer (lineRefusal b out) (recordText b)) ×
+      (out ≡ bufferAfter (lineRefusal b out) out (recordText b))
   unfolding lineRefusal textAnswer bufferAfter
   record-refused some =
       let same : n ≡ lineRefusal b out = e ∙ sym (then-some (recordRefusal b) _ (λ z. some (e ∙ z))) in (

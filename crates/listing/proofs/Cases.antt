@@ -1,4 +1,5 @@
--- The listing in the cases that FORMAT names: an empty input, which gives the header line only; an input that is too long; and a reel
+-- The listing in the cases that FORMAT names: an empty input, which gives the header line only; an input that is too long; and a
+-- reel
 -- of accepted records, each of which has its line. Assumes nothing.
 use Prim.Native.Nat.{ℕ, _≤_, _<_}
 use mathlib.Core.Path.{_≡_, ap, _∙_}
@@ -27,7 +28,8 @@ unfolding listing
 not-too-long input h =
     ap (λ (t : Bool). headerLine ++ cond t (refusedLine 24) (walkText (walk input))) (le-ltb longestInput (length input) h)
 
-pub accepted-reel : (bs : List (List ℕ)) → AllAccepted bs → length (flatten bs) ≤ longestInput → listing (flatten bs) ≡ headerLine ++ recordTexts bs
+pub accepted-reel : (bs : List (List ℕ)) → AllAccepted bs → length (flatten bs) ≤ longestInput
+    → listing (flatten bs) ≡ headerLine ++ recordTexts bs
 accepted-reel bs t h =
     let handed = records-handed bs t in
     not-too-long (flatten bs) h

@@ -17,7 +17,8 @@ use Rattle.text.specs.Number.{decimalText, digitsIn}
 use Rattle.text.specs.Text.{headerLine, refusedLine}
 use Rattle.text.proofs.Judging.{not-refused}
 use Rattle.text.proofs.Line.{refusedLine-length}
-use Rattle.listing.specs.Listing.{longestInput, recordTexts, lastText, walkText, listing, shortestRecord, mostRecords, longestLine, longestListing, textRefusal}
+use Rattle.listing.specs.Listing.{longestInput, recordTexts, lastText, walkText, listing, shortestRecord, mostRecords}
+use Rattle.listing.specs.Listing.{longestLine, longestListing, textRefusal}
 use Rattle.listing.proofs.Longest.{far, texts-small, last-small, last-short}
 
 module _ (input : List ℕ) where

@@ -1,4 +1,5 @@
--- What is left of a walk's text at a place, and what each answer there does to it: a record's line comes first and the rest is left past
+-- What is left of a walk's text at a place, and what each answer there does to it: a record's line comes first and the rest is
+-- left past
 -- the record; at the end nothing is left; a refusal's line is the last. Assumes nothing.
 use Prim.Native.Nat.{ℕ, zero, suc, _+_, _*_, _-_, _/_, _<_}
 use mathlib.Core.Path.{_≡_, refl, ap, sym, _∙_}
@@ -33,11 +34,13 @@ module _ (reel : List ℕ) where
 
   module _ (place : ℕ) where
     -- one step, by what stands there
-    step-by : (n : ℕ) (f : Found) → stepAt reel place ≡ f → walkFrom reel (suc n) place ≡ onward reel (walkFrom reel n) place (isRecord f)
+    step-by : (n : ℕ) (f : Found) → stepAt reel place ≡ f → walkFrom reel (suc n) place ≡ onward reel (walkFrom reel n) place
+        (isRecord f)
     unfolding walkFrom
     step-by n f e = ap (λ (g : Found). onward reel (walkFrom reel n) place (isRecord g)) e
 
-    stopped-text : (n : ℕ) (f : Found) → stepAt reel place ≡ f → isRecord f ≡ false → walkText (walkFrom reel n place) ≡ lastText f
+    stopped-text : (n : ℕ) (f : Found) → stepAt reel place ≡ f → isRecord f ≡ false
+        → walkText (walkFrom reel n place) ≡ lastText f
     unfolding walkFrom recordTexts
     stopped-text zero f e t = ap lastText e
     stopped-text (suc n) f e t = ap walkText (step-by n f e ∙ ap (onward reel (walkFrom reel n) place) t) ∙ ap lastText e
@@ -48,7 +51,9 @@ module _ (reel : List ℕ) where
     pub left-refused : {text : List ℕ} (n : ℕ) → stepAt reel place ≡ refused n → Left reel place text → text ≡ refusedLine n
     left-refused n e l = l .same ∙ stopped-text (l .steps) (refused n) e refl
 
-    record-text : (n start end : ℕ) → stepAt reel place ≡ accepted start end → walkText (walkFrom reel (suc n) place) ≡ recordText (take (end - start) (drop start reel)) ++ walkText (walkFrom reel n end)
+    record-text : (n start end : ℕ) → stepAt reel place ≡ accepted start end
+        → walkText (walkFrom reel (suc n) place) ≡ recordText (take (end - start) (drop start reel)) ++ walkText
+        (walkFrom reel n end)
     unfolding recordTexts
     record-text n start end e =
         let w = walkFrom reel n (nextPlace reel place) in
@@ -56,12 +61,15 @@ module _ (reel : List ℕ) where
         ∙ append-assoc (recordText (recordAt reel place)) (recordTexts (w .records)) (lastText (w .last))
         ∙ (λ i. recordText (bytesFound (e i) reel) ++ walkText (walkFrom reel n (placeAfter (e i) place)))
 
-    pub left-record : {text : List ℕ} (start end : ℕ) → stepAt reel place ≡ accepted start end → Left reel place text → Line reel end (recordText (take (end - start) (drop start reel))) text
+    pub left-record : {text : List ℕ} (start end : ℕ) → stepAt reel place ≡ accepted start end → Left reel place text
+        → Line reel end (recordText (take (end - start) (drop start reel))) text
     left-record start end e l = by-steps (l .steps) (l .enough) (l .same)
       where
-        by-steps : {text : List ℕ} (n : ℕ) → length reel < place + headerBytes * n + headerBytes → text ≡ walkText (walkFrom reel n place)
+        by-steps : {text : List ℕ} (n : ℕ) → length reel < place + headerBytes * n + headerBytes
+            → text ≡ walkText (walkFrom reel n place)
             → Line reel end (recordText (take (end - start) (drop start reel))) text
-        by-steps zero h s = absurd (let t = stands-at reel place start end e in let z : ⊥ = omega (arith, t .here, t .header, t .inside) in z)
+        by-steps zero h s = absurd (let t = stands-at reel place start end e in
+            let z : ⊥ = omega (arith, t .here, t .header, t .inside) in z)
         by-steps (suc n) h s =
             let t = stands-at reel place start end e in
             record {

@@ -66,7 +66,8 @@ unfolding restRefusal
 rest-one rest h =
     (λ i.
     first
-    (1 when (lt-ltb (length rest) headerBytes h i || ltb (wordsIn rest) headerWords) ∷ 2 when ltb (length rest) (2 * wordsIn rest) ∷ [])
+    (1 when (lt-ltb (length rest) headerBytes h i || ltb (wordsIn rest) headerWords) ∷ 2 when ltb (length rest)
+    (2 * wordsIn rest) ∷ [])
     then recordRefusal (take (2 * wordsIn rest) rest))
 
 module _ (reel : List ℕ) (place : ℕ) where
@@ -82,9 +83,14 @@ module _ (reel : List ℕ) (place : ℕ) where
   last-short h = by-test (leb (length reel) place) refl
     where
       by-test : (t : Bool) → leb (length reel) place ≡ t → length (lastText (stepAt reel place)) ≤ length (refusedLine 1)
-      by-test true e = omega (arith, ap (λ (f : Found). length (lastText f)) (step-finished reel place (leb-true (length reel) place e)))
+      by-test true e = omega (
+        arith,
+        ap (λ (f : Found). length (lastText f))
+            (step-finished reel place (leb-true (length reel) place e)),
+      )
       by-test false e =
           let rest = drop place reel in
           let one = rest-one rest (omega (arith, length-drop place reel, leb-false (length reel) place e)) in
-          let found = step-found reel place (leb-false (length reel) place e) ∙ found-refused place rest (λ z. omega (arith, one, z)) ∙ ap refused one in
+          let found = step-found reel place (leb-false (length reel) place e)
+          ∙ found-refused place rest (λ z. omega (arith, one, z)) ∙ ap refused one in
           omega (arith, ap (λ (f : Found). length (lastText f)) found)

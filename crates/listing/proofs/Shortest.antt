@@ -25,7 +25,8 @@ longLines [] = true
 longLines (l ∷ ls) = longLine l && longLines ls
 
 -- a rate that has a line in the table has a long one
-long-in : (ls : List SampleRate) (hz : ℕ) → T (longLines ls) → 1 ≤ rateHz (lineIn ls hz) → shortestRecord ≤ 2 * wordsA (lineIn ls hz)
+long-in : (ls : List SampleRate) (hz : ℕ) → T (longLines ls) → 1 ≤ rateHz (lineIn ls hz)
+    → shortestRecord ≤ 2 * wordsA (lineIn ls hz)
 unfolding lineIn
 long-in [] hz t h = absurd (let z : ⊥ = omega arith in z)
 long-in (l ∷ ls) hz t h = by-test (eqb (l .hz) hz) (long-in ls hz (right (longLine l) (longLines ls) t)) h

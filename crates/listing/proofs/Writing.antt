@@ -17,22 +17,27 @@ pub completes-start : (l : List ℕ) (a : ℕ) (x : List ℕ) → Completes l a 
 completes-start l a x = record { place = refl; buffer = refl }
 
 -- the buffer keeps its length, and has room for the rest
-pub completes-length : {before whole l : List ℕ} {at a : ℕ} {rest : List ℕ} → Completes before at whole l a rest → length l ≡ length before
+pub completes-length : {before whole l : List ℕ} {at a : ℕ} {rest : List ℕ} → Completes before at whole l a rest
+    → length l ≡ length before
 completes-length {before} {whole} {l} {at} {a} {rest} c =
     sym (length-sets l a rest) ∙ ap length (c .buffer) ∙ length-sets before at whole
 
-pub completes-room : {before whole l : List ℕ} {at a : ℕ} {rest : List ℕ} → Room before at whole → Completes before at whole l a rest → Room l a rest
+pub completes-room : {before whole l : List ℕ} {at a : ℕ} {rest : List ℕ} → Room before at whole
+    → Completes before at whole l a rest → Room l a rest
 completes-room r c = record { enough = omega (arith, r .enough, c .place, completes-length c) }
 
 -- of the text left, s is written and t is left
-pub completes-turn : {before whole l m : List ℕ} {at a b : ℕ} {s t x : List ℕ} → s ++ t ≡ x → Completes before at whole l a x → Written l a s b m → Completes before at whole m b t
+pub completes-turn : {before whole l m : List ℕ} {at a b : ℕ} {s t x : List ℕ} → s ++ t ≡ x → Completes before at whole l a x
+    → Written l a s b m → Completes before at whole m b t
 completes-turn e c w =
     let both = written-both e w (record { place = refl; buffer = refl }) in
     record { place = both .place ∙ c .place; buffer = both .buffer ∙ c .buffer }
 
 -- all that was left is written; or nothing was
-pub completes-last : {before whole l m : List ℕ} {at a b : ℕ} {x : List ℕ} → Completes before at whole l a x → Written l a x b m → Written before at whole b m
+pub completes-last : {before whole l m : List ℕ} {at a b : ℕ} {x : List ℕ} → Completes before at whole l a x → Written l a x b m
+    → Written before at whole b m
 completes-last c w = record { place = w .place ∙ c .place; buffer = w .buffer ∙ c .buffer }
 
-pub completes-end : {before whole l : List ℕ} {at a : ℕ} {x : List ℕ} → x ≡ [] → Completes before at whole l a x → Written before at whole a l
+pub completes-end : {before whole l : List ℕ} {at a : ℕ} {x : List ℕ} → x ≡ [] → Completes before at whole l a x
+    → Written before at whole a l
 completes-end e c = completes-last c (written-as (sym e) (record { place = omega arith; buffer = refl }))

@@ -70,26 +70,34 @@ module _ {M : Type 1} (𝓤 : URA M) (H : Heap 𝓤) (A : Atoms 𝓤) (W : Given
   reader-held = ⋆ 𝓤 H A ((‵ (flft κ q) ⊛ ‵ ftrue) ∷ ‵ (owns (B (κ, tt) ∷ []) (d, tt) (mach d ∷ [], tt)) ∷ [])
 
   abbrev pub reel-and-place : SProp 𝓤
-  reel-and-place = ⋆ 𝓤 H A ((‵ (flft κ q) ⊛ ‵ ftrue) ∷ ‵ (owns (ShrSlice (named 0) κ u8 ∷ usize ∷ []) (d .reel, (d .place, tt)) (passed d)) ∷ [])
+  reel-and-place = ⋆ 𝓤 H A ((‵ (flft κ q) ⊛ ‵ ftrue) ∷ ‵ (owns (ShrSlice (named 0) κ u8 ∷ usize ∷ []) (d .reel, (d .place, tt))
+      (passed d)) ∷ [])
 
   -- the reader gives what a callee asks, P, and is kept
   pub apart : (P : SProp 𝓤) → ent 𝓤 reel-and-place P → d .place < 2 ^ 64 → ent 𝓤 reader-held (sep 𝓤 P (sem 𝓤 H A (Own κ d)))
   apart P asked fits =
       qed W ((‵ (flft κ q) ⊛ ‵ ftrue) ∷ ‵ (owns (B (κ, tt) ∷ []) (d, tt) (mach d ∷ [], tt)) ∷ []) ∵
       move ! (1 ∷ []) $ fsplit ! $ move ! (1 ∷ []) $ drop ! $ use1 W (‵ (Own κ d) ⊛ ‵ (Own κ d)) twice $ split ! $
-      use1 W (given (mach d ∷ [] ≡ mach d ∷ []) (‵ (all-own (D (κ, tt) .parts) (L (κ, tt)) (vd (κ, tt) d)))) (own-open 𝓤 H A W (D (κ, tt)) (L (κ, tt)) (vd (κ, tt) d) (mach d)) $ learn ! (λ _.
-      use1 W (‵ (ownAt (D (κ, tt) .parts) (L (κ, tt)) 0 (d .reel)) ⊛ ‵ (rest (D (κ, tt) .parts) (L (κ, tt)) 0 (vd (κ, tt) d))) (own-out 𝓤 H A W (D (κ, tt) .parts) (L (κ, tt)) 0 (vd (κ, tt) d)) $ split ! $
+      use1 W (given (mach d ∷ [] ≡ mach d ∷ []) (‵ (all-own (D (κ, tt) .parts) (L (κ, tt)) (vd (κ, tt) d))))
+      (own-open 𝓤 H A W (D (κ, tt)) (L (κ, tt)) (vd (κ, tt) d) (mach d)) $ learn ! (λ _.
+      use1 W (‵ (ownAt (D (κ, tt) .parts) (L (κ, tt)) 0 (d .reel)) ⊛ ‵ (rest (D (κ, tt) .parts) (L (κ, tt)) 0 (vd (κ, tt) d)))
+      (own-out 𝓤 H A W (D (κ, tt) .parts) (L (κ, tt)) 0 (vd (κ, tt) d)) $ split ! $
       -- [what reel owns; what place owns; what the reader owns; the token]
-      move ! (1 ∷ []) $ drop ! $ nothing ! $ owned ! usize (Is usize) (uint-makes 𝓤 H A W w64) (d .place) _ (refl, fits) $ fjoin ! $ move ! (1 ∷ 0 ∷ []) $ fjoin ! $
+      move ! (1 ∷ []) $ drop ! $ nothing ! $ owned ! usize (Is usize) (uint-makes 𝓤 H A W w64) (d .place) _ (refl, fits) $
+      fjoin ! $ move ! (1 ∷ 0 ∷ []) $ fjoin ! $
       move ! (2 ∷ 0 ∷ []) $ use2 W (raw P) asked $ frame ! $ done !)
 
   -- the reel and the place give what a callee that takes the reader asks, P, and the reel is kept
-  pub together : (P : SProp 𝓤) → ent 𝓤 (reader-held) P → d .place < 2 ^ 64 → ent 𝓤 (reel-and-place) (sep 𝓤 P (sem 𝓤 H A (Kept κ d)))
+  pub together : (P : SProp 𝓤) → ent 𝓤 (reader-held) P → d .place < 2 ^ 64
+      → ent 𝓤 (reel-and-place) (sep 𝓤 P (sem 𝓤 H A (Kept κ d)))
   together P asked fits =
-      qed W ((‵ (flft κ q) ⊛ ‵ ftrue) ∷ ‵ (owns (ShrSlice (named 0) κ u8 ∷ usize ∷ []) (d .reel, (d .place, tt)) (passed d)) ∷ []) ∵
-      move ! (1 ∷ []) $ fsplit ! $ use1 W (‵ (Kept κ d) ⊛ ‵ (Kept κ d)) (shr-slice-copy 𝓤 H A W (named 0) κ u8 .twice (d .reel) (reel-value d ∷ [])) $ split ! $
+      qed W ((‵ (flft κ q) ⊛ ‵ ftrue) ∷ ‵ (owns (ShrSlice (named 0) κ u8 ∷ usize ∷ []) (d .reel, (d .place, tt)) (passed d)) ∷ [])
+      ∵
+      move ! (1 ∷ []) $ fsplit ! $ use1 W (‵ (Kept κ d) ⊛ ‵ (Kept κ d))
+      (shr-slice-copy 𝓤 H A W (named 0) κ u8 .twice (d .reel) (reel-value d ∷ [])) $ split ! $
       -- [what reel owns; the same; what place owns; the token]
-      move ! (2 ∷ []) $ drop ! $ nothing ! $ owned ! usize (Is usize) (uint-makes 𝓤 H A W w64) (d .place) _ (refl, fits) $ fjoin ! $ move ! (1 ∷ 0 ∷ []) $ fjoin ! $
+      move ! (2 ∷ []) $ drop ! $ nothing ! $ owned ! usize (Is usize) (uint-makes 𝓤 H A W w64) (d .place) _ (refl, fits) $
+      fjoin ! $ move ! (1 ∷ 0 ∷ []) $ fjoin ! $
       use1 W (‵ (Own κ d)) (own-shut 𝓤 H A W (D (κ, tt)) (L (κ, tt)) (vd (κ, tt) d)) $ nothing ! $ move ! (1 ∷ 0 ∷ []) $ fjoin ! $
       move ! (2 ∷ 0 ∷ []) $ use2 W (raw P) asked $ frame ! $ done !
 

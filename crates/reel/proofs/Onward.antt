@@ -26,7 +26,8 @@ module _ (reel : List ℕ) where
   unfolding flatten
   along-stopped place = record { joined = ended place; good = tt; there = refl; on = omega arith; inside = λ h. h }
 
-  along-handing : (place : ℕ) (w : Walk) → isRecord (stepAt reel place) ≡ true → Along reel (nextPlace reel place) w → Along reel place (handing (recordAt reel place) w)
+  along-handing : (place : ℕ) (w : Walk) → isRecord (stepAt reel place) ≡ true → Along reel (nextPlace reel place) w
+      → Along reel place (handing (recordAt reel place) w)
   unfolding flatten
   along-handing place w e a =
       let m = moved reel place e in
@@ -38,7 +39,8 @@ module _ (reel : List ℕ) where
         inside = λ _. a .inside (m .inside);
       }
 
-  along-onward : (go : ℕ → Walk) (place : ℕ) (b : Bool) → isRecord (stepAt reel place) ≡ b → Along reel (nextPlace reel place) (go (nextPlace reel place)) → Along reel place (onward reel go place b)
+  along-onward : (go : ℕ → Walk) (place : ℕ) (b : Bool) → isRecord (stepAt reel place) ≡ b
+      → Along reel (nextPlace reel place) (go (nextPlace reel place)) → Along reel place (onward reel go place b)
   along-onward go place true e a = along-handing place (go (nextPlace reel place)) e a
   along-onward go place false e a = along-stopped place
 
@@ -56,12 +58,15 @@ module _ (reel : List ℕ) where
       by-test false e = refl
 
   -- n records are enough where fewer than 80 n + 80 bytes are left
-  pub enough : (n place : ℕ) → length reel < place + headerBytes * n + headerBytes → isRecord (walkFrom reel n place .last) ≡ false
+  pub enough : (n place : ℕ) → length reel < place + headerBytes * n + headerBytes
+      → isRecord (walkFrom reel n place .last) ≡ false
   unfolding walkFrom
   enough zero place h = none-left place (omega arith)
   enough (suc n) place h =
       by-test (walkFrom reel n) (isRecord (stepAt reel place)) refl (λ m. enough n (nextPlace reel place) (omega (arith, h, m)))
     where
-      by-test : (go : ℕ → Walk) (b : Bool) → isRecord (stepAt reel place) ≡ b → (place + headerBytes ≤ nextPlace reel place → isRecord (go (nextPlace reel place) .last) ≡ false) → isRecord (onward reel go place b .last) ≡ false
+      by-test : (go : ℕ → Walk) (b : Bool) → isRecord (stepAt reel place) ≡ b
+          → (place + headerBytes ≤ nextPlace reel place → isRecord (go (nextPlace reel place) .last) ≡ false)
+          → isRecord (onward reel go place b .last) ≡ false
       by-test go true e f = f (moved reel place e .header)
       by-test go false e f = e

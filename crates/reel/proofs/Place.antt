@@ -11,7 +11,8 @@ use borrow.Author.Tests.{le-leb, lt-leb, leb-true, leb-false, eqb-true, eqb-fals
 use Rattle.header.specs.Format.{headerBytes}
 use Rattle.record.specs.Record.{recordRefusal}
 use Rattle.answers.proofs.Refusals.{cond-none, cond-some}
-use Rattle.reel.specs.Reel.{Found, accepted, finished, refused, wordsIn, restRefusal, foundIn, stepAt, bytesFound, placeAfter, recordAt, nextPlace}
+use Rattle.reel.specs.Reel.{Found, accepted, finished, refused, wordsIn, restRefusal, foundIn, stepAt, bytesFound}
+use Rattle.reel.specs.Reel.{placeAfter, recordAt, nextPlace}
 use Rattle.reel.specs.Walk.{isRecord}
 use Rattle.reel.proofs.Rest.{whole, rest-number, accepted-size, front-size, front-accepted}
 
@@ -63,7 +64,8 @@ by-cond P true f g = f refl
 by-cond P false f g = g refl
 
 module _ (reel : List ℕ) (place : ℕ) where
-  stands : place < length reel → restRefusal (drop place reel) ≡ 0 → Stands reel place place (place + 2 * wordsIn (drop place reel))
+  stands : place < length reel → restRefusal (drop place reel) ≡ 0
+      → Stands reel place place (place + 2 * wordsIn (drop place reel))
   stands h e =
       let rest = drop place reel in
       let w = whole rest e in

@@ -24,7 +24,8 @@ module _ (reel : List ℕ) where
       let p = ap (λ (f : Found). onward reel (walkFrom reel n) place (isRecord f)) e in
       record { records = ap (λ (w : Walk). w .records) p; last = ap (λ (w : Walk). w .last) p ∙ e }
 
-  hands-more : (n place : ℕ) (b : List ℕ) (bs : List (List ℕ)) → stepAt reel place ≡ accepted place (place + length b) → recordAt reel place ≡ b
+  hands-more : (n place : ℕ) (b : List ℕ) (bs : List (List ℕ)) → stepAt reel place ≡ accepted place (place + length b)
+      → recordAt reel place ≡ b
       → Hands bs (walkFrom reel n (nextPlace reel place)) → Hands (b ∷ bs) (walkFrom reel (suc n) place)
   unfolding walkFrom
   hands-more n place b bs e r h =
@@ -35,7 +36,8 @@ module _ (reel : List ℕ) where
       }
 
   -- of what is left, joined from accepted records
-  pub hands : (bs : List (List ℕ)) (n place : ℕ) → drop place reel ≡ flatten bs → AllAccepted bs → length bs ≤ n → Hands bs (walkFrom reel n place)
+  pub hands : (bs : List (List ℕ)) (n place : ℕ) → drop place reel ≡ flatten bs → AllAccepted bs → length bs ≤ n
+      → Hands bs (walkFrom reel n place)
   unfolding flatten
   hands [] n place e t h = hands-none n place (step-finished reel place (omega (arith, length-drop place reel, ap length e)))
   hands (b ∷ bs) zero place e t h = absurd (let z : ⊥ = omega arith in z)
@@ -44,9 +46,11 @@ module _ (reel : List ℕ) where
       let size : place + length b - place ≡ length b = omega arith in
       let next : nextPlace reel place ≡ place + length b = ap (λ (f : Found). placeAfter f place) s in
       let here : recordAt reel place ≡ b =
-      ap (λ (f : Found). bytesFound f reel) s ∙ ap (λ (k : ℕ). take k (drop place reel)) size ∙ ap (take (length b)) e ∙ take-append-seam b (flatten bs) in
+      ap (λ (f : Found). bytesFound f reel) s ∙ ap (λ (k : ℕ). take k (drop place reel)) size ∙ ap (take (length b)) e
+      ∙ take-append-seam b (flatten bs) in
       let left : drop (nextPlace reel place) reel ≡ flatten bs =
-      ap (λ (k : ℕ). drop k reel) next ∙ sym (drop-drop (length b) place reel) ∙ ap (drop (length b)) e ∙ drop-append-seam b (flatten bs) in
+      ap (λ (k : ℕ). drop k reel) next ∙ sym (drop-drop (length b) place reel) ∙ ap (drop (length b)) e
+      ∙ drop-append-seam b (flatten bs) in
       hands-more n place b bs s here (hands bs n (nextPlace reel place) left (t .1) (omega arith))
 
 pub joined-size : (bs : List (List ℕ)) → AllAccepted bs → headerBytes * length bs ≤ length (flatten bs)

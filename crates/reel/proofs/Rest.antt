@@ -1,4 +1,5 @@
--- The record that what is left of a reel begins with: its length in words, what no refusal tells of it, and that after 1 and 2 come 3 to 11.
+-- The record that what is left of a reel begins with: its length in words, what no refusal tells of it, and that after 1 and 2
+-- come 3 to 11.
 -- Assumes nothing.
 use Prim.Native.Nat.{ℕ, _+_, _*_, _/_, _%_, _^_, _-_, _≤_, _<_}
 use mathlib.Core.Path.{_≡_, refl, ap, sym, subst, _∙_}
@@ -55,7 +56,8 @@ whole rest e =
     let cs = restChecks (length rest) (wordsIn rest) in
     let z = then-zero (first cs) _ e in
     record {
-      words = ltb-false (wordsIn rest) headerWords (or-false (ltb (length rest) headerBytes) (ltb (wordsIn rest) headerWords) (none-applies cs 0 tt (z .0)) .1);
+      words = ltb-false (wordsIn rest) headerWords (or-false (ltb (length rest) headerBytes) (ltb (wordsIn rest) headerWords)
+          (none-applies cs 0 tt (z .0)) .1);
       inside = ltb-false (length rest) (2 * wordsIn rest) (none-applies cs 1 tt (z .0));
       good = z .1;
     }
@@ -76,9 +78,13 @@ first-within lo hi (c ∷ cs) t =
     either-number (c .applies) (left (leb lo (c .number) && leb (c .number) hi) (numbersWithin lo hi cs) t)
     (first-within lo hi cs (right (leb lo (c .number) && leb (c .number) hi) (numbersWithin lo hi cs) t))
   where
-    either-number : (b : Bool) → T (leb lo (c .number) && leb (c .number) hi) → NoneOr lo hi (first cs) → NoneOr lo hi (cond b (c .number) (first cs))
+    either-number : (b : Bool) → T (leb lo (c .number) && leb (c .number) hi) → NoneOr lo hi (first cs)
+        → NoneOr lo hi (cond b (c .number) (first cs))
     either-number true u h =
-        inr (leb→le lo (c .number) (left (leb lo (c .number)) (leb (c .number) hi) u), leb→le (c .number) hi (right (leb lo (c .number)) (leb (c .number) hi) u))
+        inr (
+          leb→le lo (c .number) (left (leb lo (c .number)) (leb (c .number) hi) u),
+          leb→le (c .number) hi (right (leb lo (c .number)) (leb (c .number) hi) u),
+        )
     either-number false u h = h
 
 -- what is judged of the bytes
@@ -99,14 +105,17 @@ three-on b h e =
     (first-within 3 11 cs tt)
 
 -- where neither 1 nor 2 applies, the refusal is the record's own
-module _ (rest : List ℕ) (long : headerBytes ≤ length rest) (words : headerWords ≤ wordsIn rest) (inside : 2 * wordsIn rest ≤ length rest) where
+module _ (rest : List ℕ) (long : headerBytes ≤ length rest) (words : headerWords ≤ wordsIn rest)
+    (inside : 2 * wordsIn rest ≤ length rest) where
   no-check : first (restChecks (length rest) (wordsIn rest)) ≡ 0
   no-check =
-      (λ i. cond (le-ltb (length rest) headerBytes long i || le-ltb (wordsIn rest) headerWords words i) 1 (cond (le-ltb (length rest) (2 * wordsIn rest) inside i) 2 0))
+      (λ i. cond (le-ltb (length rest) headerBytes long i || le-ltb (wordsIn rest) headerWords words i) 1
+      (cond (le-ltb (length rest) (2 * wordsIn rest) inside i) 2 0))
 
   pub own-refusal : restRefusal rest ≡ recordRefusal (take (2 * wordsIn rest) rest)
   unfolding restRefusal
-  own-refusal = then-none (first (restChecks (length rest) (wordsIn rest))) (recordRefusal (take (2 * wordsIn rest) rest)) no-check
+  own-refusal = then-none (first (restChecks (length rest) (wordsIn rest)))
+      (recordRefusal (take (2 * wordsIn rest) rest)) no-check
 
   -- FORMAT: then 3 to 11
   pub then-three-to-eleven : NoneOr 3 11 (restRefusal rest)
@@ -119,7 +128,8 @@ module _ (rest : List ℕ) (long : headerBytes ≤ length rest) (words : headerW
 -- no refusal of a reel is above 11
 pub rest-number : (rest : List ℕ) → restRefusal rest ≤ 11
 unfolding restRefusal
-rest-number rest = by-test (eqb (first (restChecks (length rest) (wordsIn rest))) 0) (first-within 1 2 (restChecks (length rest) (wordsIn rest)) tt) (record-number (take (2 * wordsIn rest) rest))
+rest-number rest = by-test (eqb (first (restChecks (length rest) (wordsIn rest))) 0)
+    (first-within 1 2 (restChecks (length rest) (wordsIn rest)) tt) (record-number (take (2 * wordsIn rest) rest))
   where
     by-test : {n m : ℕ} (b : Bool) → NoneOr 1 2 n → NoneOr 1 11 m → cond b m n ≤ 11
     by-test true p q = ⊎-elim (λ z. omega (arith, z)) (λ z. z .1) q

@@ -1,4 +1,5 @@
--- The claims of a walk along any reel from place 0. FORMAT, "The reel": where it finishes, the records handed out, joined, are the
+-- The claims of a walk along any reel from place 0. FORMAT, "The reel": where it finishes, the records handed out, joined, are
+-- the
 -- reel. `walk` is in specs/Walk, the reader's walk in specs/Reader, what stands at a place in specs/Reel.
 -- Assumes nothing.
 use Prim.Native.Nat.{ℕ, _+_, _/_, _≤_}
@@ -45,7 +46,8 @@ module _ (reel : List ℕ) where
       let a = along reel (length reel / headerBytes) 0 in
       omega (arith, a .on, a .inside (omega arith))
 
-  -- `record_at`, `next_place`, and the reader's `record` and `next`, bear no number: `step_at` and `peek` at the same place do. Where
+  -- `record_at`, `next_place`, and the reader's `record` and `next`, bear no number: `step_at` and `peek` at the same place do.
+  -- Where
   -- those give a record, its bytes are accepted, so there are some; at the end and beside a refusal there are none
   pub record-stands : (place : ℕ) → isRecord (stepAt reel place) ≡ true → recordRefusal (recordAt reel place) ≡ 0
   record-stands place e = moved reel place e .good
@@ -61,7 +63,8 @@ module _ (reel : List ℕ) where
   does-not-move place e = stays reel place e
 
 -- accepted records, joined, are a reel whose walk hands out those records and finishes
-pub records-handed : (bs : List (List ℕ)) → AllAccepted bs → (walk (flatten bs) .records ≡ bs) × (walk (flatten bs) .last ≡ finished)
+pub records-handed : (bs : List (List ℕ)) → AllAccepted bs → (walk (flatten bs) .records ≡ bs) ×
+    (walk (flatten bs) .last ≡ finished)
 unfolding walk
 records-handed bs t =
     let h = hands (flatten bs) bs (length (flatten bs) / headerBytes) 0 refl t (omega (arith, joined-size bs t)) in

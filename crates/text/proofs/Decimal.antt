@@ -1,4 +1,5 @@
--- Decimal digits: one digit, one digit more, how many there are, none of them a zero in front, and the number that they stand for.
+-- Decimal digits: one digit, one digit more, how many there are, none of them a zero in front, and the number that they stand
+-- for.
 -- Assumes nothing.
 use mathlib.Core.Path.{_≡_, refl, sym, ap, _∙_, subst}
 use mathlib.Core.Bool.{Bool}
@@ -28,7 +29,8 @@ enough zero g n hf hg = small zero n (omega arith) ∙ sym (small g n (omega ari
 enough (suc f) zero n hf hg = small (suc f) n (omega arith) ∙ sym (small zero n (omega arith))
 enough (suc f) (suc g) n hf hg =
     ⊎-elim
-    (λ h. large f n h ∙ ap (λ (l : List ℕ). l ++ digit n ∷ []) (enough f g (n / 10) (omega arith) (omega arith)) ∙ sym (large g n h))
+    (λ h. large f n h ∙ ap (λ (l : List ℕ). l ++ digit n ∷ []) (enough f g (n / 10) (omega arith) (omega arith))
+    ∙ sym (large g n h))
     (λ h. small (suc f) n h ∙ sym (small (suc g) n h))
     (le-or-lt 10 n)
 
@@ -64,7 +66,8 @@ length-suc : (k n : ℕ) → n < 10 ^ suc k → length (decimalText n) ≤ suc k
 length-suc zero n h = omega (arith, one-length n h)
 length-suc (suc k) n h =
     ⊎-elim
-    (λ g. let tenth = div-lt-iff-lt-mul (lit< tt) .1 (subst (λ (x : ℕ). n < x) (pow-suc 10 (suc k)) h) in omega (arith, more-length n g, length-suc k (n / 10) tenth))
+    (λ g. let tenth = div-lt-iff-lt-mul (lit< tt) .1 (subst (λ (x : ℕ). n < x) (pow-suc 10 (suc k)) h) in
+    omega (arith, more-length n g, length-suc k (n / 10) tenth))
     (λ g. omega (arith, one-length n g))
     (le-or-lt 10 n)
 
@@ -85,7 +88,12 @@ no-leading-zero n h = first (omega arith)
     first =
         by-digits (λ (m : ℕ). 0 < m → 48 < getD (decimalText m) 0 0)
         (λ m g p. omega (arith, ap (λ (l : List ℕ). getD l 0 0) (one-digit m g)))
-        (λ m g f p. omega (arith, f (omega arith), ap (λ (l : List ℕ). getD l 0 0) (more-digits m g), List·getD-append (decimalText (m / 10)) (digit m ∷ []) 0 0 (omega (arith, some-digit (m / 10)))))
+        (λ m g f p. omega (
+          arith,
+          f (omega arith),
+          ap (λ (l : List ℕ). getD l 0 0) (more-digits m g),
+          List·getD-append (decimalText (m / 10)) (digit m ∷ []) 0 0 (omega (arith, some-digit (m / 10))),
+        ))
         n
 
 after-last : (before : ℕ) (ds : List ℕ) (d : ℕ) → valueAfter before (ds ++ d ∷ []) ≡ valueAfter before ds * 10 + (d - 48)

@@ -62,7 +62,8 @@ module _ (out : List ℕ) (at : ℕ) (text : List ℕ) where
   judged-full e t = leb-false (at + length text) (length out) (sym e ∙ t)
 
 -- a text written from the start of a buffer that has room for it is the buffer's front
-pub front : {line text after : List ℕ} {n : ℕ} → length text ≤ length line → Written line 0 text n after → (n ≤ length after) × (take n after ≡ text)
+pub front : {line text after : List ℕ} {n : ℕ} → length text ≤ length line → Written line 0 text n after
+    → (n ≤ length after) × (take n after ≡ text)
 front {line} {text} h w = (
   omega (arith, w .place, ap length (w .buffer), length-sets line 0 text),
   (λ i. take ((w .place ∙ zero-add (length text)) i) ((w .buffer ∙ sets-eq text line 0 (omega arith)) i))

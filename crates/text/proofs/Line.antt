@@ -34,7 +34,8 @@ pub record Digits (c : Columns) (n t o f r : ℕ) : Type 0 where
   pub frequency : c .«frequency_uhz» < 10 ^ f * 10 ^ 6
   pub rate : natAbs (c .«frequency_rate_units») < 10 ^ r * 10 ^ 5
 
-pub line-within : (c : Columns) (n t o f r : ℕ) → 0 < n → 0 < t → 0 < o → 0 < f → 0 < r → Digits c n t o f r → length (recordLine c) ≤ lineOf n t o f r
+pub line-within : (c : Columns) (n t o f r : ℕ) → 0 < n → 0 < t → 0 < o → 0 < f → 0 < r → Digits c n t o f r
+    → length (recordLine c) ≤ lineOf n t o f r
 unfolding recordLine
 line-within c n t o f r pn pt po pf pr d =
     let hn = decimal-length n (c .number) pn (d .number) in
@@ -49,22 +50,42 @@ line-within c n t o f r pn pt po pf pr d =
 abbrev pub longestOfWords : ℕ
 longestOfWords = lineOf 20 20 20 14 14
 
-pub word-line : (c : Columns) → c .number < 2 ^ 64 → c .«first_us» < 2 ^ 64 → c .origin < 2 ^ 64 → c .«frequency_uhz» < 2 ^ 64 → mag (c .«frequency_rate_units») < 2 ^ 63 → length (recordLine c) ≤ longestOfWords
+pub word-line : (c : Columns) → c .number < 2 ^ 64 → c .«first_us» < 2 ^ 64 → c .origin < 2 ^ 64 → c .«frequency_uhz» < 2 ^ 64
+    → mag (c .«frequency_rate_units») < 2 ^ 63 → length (recordLine c) ≤ longestOfWords
 word-line c hn ht ho hf hr =
     line-within c 20 20 20 14 14 (lit< tt) (lit< tt) (lit< tt) (lit< tt) (lit< tt)
-    (record { number = lt-of-lt-of-le hn (lit≤ tt); first = lt-of-lt-of-le ht (lit≤ tt); origin = lt-of-lt-of-le ho (lit≤ tt); frequency = lt-of-lt-of-le hf (lit≤ tt); rate = omega (arith, natAbs-mag (c .«frequency_rate_units»)) })
+    (record {
+      number = lt-of-lt-of-le hn (lit≤ tt);
+      first = lt-of-lt-of-le ht (lit≤ tt);
+      origin = lt-of-lt-of-le ho (lit≤ tt);
+      frequency = lt-of-lt-of-le hf (lit≤ tt);
+      rate = omega (arith, natAbs-mag (c .«frequency_rate_units»));
+    })
 
 pub refusedLine-length : (d number : ℕ) → 0 < d → number < 10 ^ d → length (refusedLine number) ≤ 9 + d
 unfolding refusedLine
 refusedLine-length d number p h = let n = decimal-length d number p h in simp length-append (omega arith)
 
 -- the 51 bytes of the longest line of a record are reached, by the last time of a day that a tag can give
-longest : length (recordLine (record { number = 65535; «first_us» = 86399999000; origin = 1; «frequency_uhz» = 99999999999999; «frequency_rate_units» = negsuc 999989999999 })) ≡ lineOf 5 11 1 8 7
+longest : length (recordLine (record {
+  number = 65535;
+  «first_us» = 86399999000;
+  origin = 1;
+  «frequency_uhz» = 99999999999999;
+  «frequency_rate_units» = negsuc 999989999999;
+})) ≡ lineOf 5 11 1 8 7
 unfolding recordLine signedFixed fixed places decimalText digitsIn
 longest = refl
 
 -- what the lister prints of the case of FORMAT: -1.23450 is `negsuc 123449`
-the-case : headerLine ++ recordLine (record { number = 1; «first_us» = 43200000000; origin = 1; «frequency_uhz» = 42000000; «frequency_rate_units» = negsuc 123449 }) ≡ ascii "record,first_us,origin,poca_hz,rate_hz_s\n1,43200000000,1,42.000000,-1.23450\n"
+the-case : headerLine ++ recordLine (record {
+  number = 1;
+  «first_us» = 43200000000;
+  origin = 1;
+  «frequency_uhz» = 42000000;
+  «frequency_rate_units» = negsuc 123449;
+}) ≡ ascii
+    "record,first_us,origin,poca_hz,rate_hz_s\n1,43200000000,1,42.000000,-1.23450\n"
 unfolding headerLine recordLine signedFixed fixed places decimalText digitsIn
 the-case = refl
 

@@ -13,7 +13,8 @@ use Rattle.text.proofs.Decimal.{value-last, value-decimal}
 pub places-length : (k n : ℕ) → length (places k n) ≡ k
 unfolding places
 places-length zero n = refl
-places-length (suc k) n = length-append (places k (n / 10)) (digit n ∷ []) ∙ ap (λ (j : ℕ). j + 1) (places-length k (n / 10)) ∙ add-one k
+places-length (suc k) n = length-append (places k (n / 10)) (digit n ∷ []) ∙ ap (λ (j : ℕ). j + 1) (places-length k (n / 10))
+    ∙ add-one k
 
 -- a tenth less one place
 tenth : (k n : ℕ) → n / 10 / 10 ^ k ≡ n / 10 ^ suc k

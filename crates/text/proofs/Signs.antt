@@ -51,8 +51,10 @@ plain-text k (pos a) e t = ap (fixed k) e
 plain-text k (negsuc a) e t = absurd (true≢false t)
 
 -- the text by the code's test and magnitude
-pub signed-below : (k : ℕ) {z : ℤ} {n : ℕ} → SFits w64 z → n ≡ natAbs (readOf z) → ltZ (readOf z) (pos 0) ≡ true → ascii "-" ++ fixed k n ≡ signedFixed k z
+pub signed-below : (k : ℕ) {z : ℤ} {n : ℕ} → SFits w64 z → n ≡ natAbs (readOf z) → ltZ (readOf z) (pos 0) ≡ true
+    → ascii "-" ++ fixed k n ≡ signedFixed k z
 signed-below k {z} f e t = minus-text k (readOf z) e t ∙ signed-read k f
 
-pub signed-not-below : (k : ℕ) {z : ℤ} {n : ℕ} → SFits w64 z → n ≡ natAbs (readOf z) → ltZ (readOf z) (pos 0) ≡ false → fixed k n ≡ signedFixed k z
+pub signed-not-below : (k : ℕ) {z : ℤ} {n : ℕ} → SFits w64 z → n ≡ natAbs (readOf z) → ltZ (readOf z) (pos 0) ≡ false
+    → fixed k n ≡ signedFixed k z
 signed-not-below k {z} f e t = plain-text k (readOf z) e t ∙ signed-read k f

@@ -21,9 +21,12 @@ room-first {l} {a} {s} {x} t e r = record { enough = omega (arith, r .enough, ap
 
 pub room-rest : {l m : List ℕ} {a b : ℕ} {s t x : List ℕ} → s ++ t ≡ x → Room l a x → Written l a s b m → Room m b t
 room-rest {l} {m} {a} {b} {s} {t} {x} e r w =
-    record { enough = omega (arith, r .enough, ap length e, length-append s t, w .place, ap length (w .buffer), length-sets l a s) }
+    record {
+      enough = omega (arith, r .enough, ap length e, length-append s t, w .place, ap length (w .buffer), length-sets l a s);
+    }
 
-pub written-both : {l m o : List ℕ} {a b c : ℕ} {s t x : List ℕ} → s ++ t ≡ x → Written l a s b m → Written m b t c o → Written l a x c o
+pub written-both : {l m o : List ℕ} {a b c : ℕ} {s t x : List ℕ} → s ++ t ≡ x → Written l a s b m → Written m b t c o
+    → Written l a x c o
 written-both {l} {m} {o} {a} {b} {c} {s} {t} {x} e first second =
     record {
       place = omega (arith, first .place, second .place, ap length e, length-append s t);

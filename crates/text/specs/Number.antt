@@ -1,4 +1,5 @@
--- Numbers as text (FORMAT, "The listing"): decimal digits, decimal places, a minus below zero. Characters are their ASCII numbers.
+-- Numbers as text (FORMAT, "The listing"): decimal digits, decimal places, a minus below zero. Characters are their ASCII
+-- numbers.
 use mathlib.Core.Bool.{Bool, true, false}
 use mathlib.Core.List.{List, [], _∷_, _++_}
 use Prim.Native.Nat.{ℕ, zero, suc, _+_, _-_, _*_, _/_, _%_, _^_}

@@ -29,8 +29,10 @@ module _ (c : tie.After-read-part Inv-loop μ-loop) where
   abbrev turn : tie.At-loop Inv-loop μ-loop
   turn = c .before .before .before
 
-  kept : let t = turn .loop in length (putMid (t .done) (length (t .buffer) - t .done) (t .buffer) (c .read-part .last .0)) ≡ length (t .buffer)
-  kept = let t = turn .loop in same-len-mid (t .done) (length (t .buffer) - t .done) (t .buffer) (c .read-part .last .0) (c .read-part .kept .0)
+  kept : let t = turn .loop in length (putMid (t .done) (length (t .buffer) - t .done) (t .buffer) (c .read-part .last .0))
+      ≡ length (t .buffer)
+  kept = let t = turn .loop in same-len-mid (t .done) (length (t .buffer) - t .done) (t .buffer) (c .read-part .last .0)
+      (c .read-part .kept .0)
 
   -- and no more bytes came than it has
   came : (more : ℕ) → c .read-part .result ≡ Bytes more → turn .loop .done + more ≤ length (turn .loop .buffer)

@@ -37,7 +37,8 @@ module _ (c : tie.After-next-of) where
 
   header : Written out 0 headerLine (c .next-of .result) (c .before .put-header-line .last .0)
   header =
-      put-written out 0 headerLine (record { enough = omega (arith, size) }) (c .next-of .ensures) (c .before .put-header-line .ensures .0) (c .before .put-header-line .ensures .1)
+      put-written out 0 headerLine (record { enough = omega (arith, size) }) (c .next-of .ensures)
+      (c .before .put-header-line .ensures .0) (c .before .put-header-line .ensures .1)
 
   -- what is written behind the header line, so that both are the listing
   module _ {text : List ℕ} (e : listing input ≡ headerLine ++ text) where
@@ -52,14 +53,17 @@ write-refusal-requires : tie.Need-write-refusal-requires
 write-refusal-requires c κs = let k = c .before .before in room-behind k (too-long (input k) (c .before .if1 .taken))
 
 returns : tie.Need-returns
-returns c = let k = c .before .before .before in listed k (too-long (input k) (c .before .before .if1 .taken)) (c .write-refusal .ensures)
+returns c = let k = c .before .before .before in listed k (too-long (input k) (c .before .before .if1 .taken))
+    (c .write-refusal .ensures)
 
 write-walk-requires : tie.Need-write-walk-requires
 write-walk-requires c κs = let k = c .before .before in room-behind k (not-too-long (input k) (c .before .if1 .left))
 
 returns-2 : tie.Need-returns-2
-returns-2 c = let k = c .before .before .before in listed k (not-too-long (input k) (c .before .before .if1 .left)) (c .write-walk .ensures)
+returns-2 c = let k = c .before .before .before in listed k (not-too-long (input k) (c .before .before .if1 .left))
+    (c .write-walk .ensures)
 
 pub list-whole-spec : {M : Type 1} → statement M
 list-whole-spec =
-    tie.close (tie.spec (λ c κs. search needs) (λ c κs. search needs) write-refusal-requires returns write-walk-requires returns-2)
+    tie.close (tie.spec (λ c κs. search needs) (λ c κs. search needs) write-refusal-requires returns write-walk-requires
+    returns-2)

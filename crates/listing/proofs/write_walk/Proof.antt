@@ -1,4 +1,5 @@
--- The loop's invariant: writing what is left of the walk's text completes it. The measure is what is left of the reel. Assumes nothing.
+-- The loop's invariant: writing what is left of the walk's text completes it. The measure is what is left of the reel. Assumes
+-- nothing.
 use Prim.Native.Nat.{ℕ, _-_, _≤_, _<_}
 use mathlib.Core.Path.{_≡_, refl, ap, sym, _∙_}
 use mathlib.Core.List.{List}
@@ -15,7 +16,8 @@ use Rattle.text.specs.Writing.{Room}
 use Rattle.text.proofs.Writing.{room-first, room-as, written-as}
 use Rattle.listing.specs.Listing.{recordText}
 use Rattle.listing.proofs.Left.{Line, Walking, left-start, left-record, left-finished, left-refused}
-use Rattle.listing.proofs.Writing.{completes-start, completes-length, completes-room, completes-turn, completes-last, completes-end}
+use Rattle.listing.proofs.Writing.{completes-start, completes-length, completes-room, completes-turn, completes-last}
+use Rattle.listing.proofs.Writing.{completes-end}
 use Rattle.listing.proofs.write_walk.Statement.{statement}
 use Rattle.listing.proofs.write_walk.Tie as tie
 
@@ -42,7 +44,8 @@ module _ (c : tie.After-step-by-reader Inv-loop μ-loop) where
   stands : (start end : ℕ) → c .step-by-reader .result ≡ Step.Record start end → Stands reel (turn .loop .place) start end
   stands start end is = stands-at reel (turn .loop .place) start end (found (Step.Record start end) is)
 
-  line : (start end : ℕ) → c .step-by-reader .result ≡ Step.Record start end → Line reel end (recordText (take (end - start) (drop start reel))) (turn .loop .inv .rest)
+  line : (start end : ℕ) → c .step-by-reader .result ≡ Step.Record start end
+      → Line reel end (recordText (take (end - start) (drop start reel))) (turn .loop .inv .rest)
   line start end is = left-record reel (turn .loop .place) start end (found (Step.Record start end) is) (turn .loop .inv .left)
 
   room : Room (turn .loop .out) (turn .loop .next) (turn .loop .inv .rest)
@@ -52,7 +55,8 @@ loop-holds : tie.Need-loop-holds Inv-loop μ-loop
 loop-holds c = record { rest = _; left = left-start _; completes = completes-start _ _ _ }
 
 sub-write-record : tie.Need-sub-write-record Inv-loop μ-loop
-sub-write-record c = let m = c .before .before in let s = stands (m .before .before) _ _ (m .start .given .1) in omega (arith, s .header)
+sub-write-record c = let m = c .before .before in let s = stands (m .before .before) _ _ (m .start .given .1) in
+    omega (arith, s .header)
 
 part-write-record-end : tie.Need-part-write-record-end Inv-loop μ-loop
 part-write-record-end c = let m = c .before .before in stands (m .before .before) _ _ (m .start .given .1) .inside
@@ -75,7 +79,12 @@ loop-again c =
     let m = c .before .before .before .before .before .before in
     let k = m .before .before in
     let l = line k _ _ (m .start .given .1) in
-    record { rest = l .rest; left = l .left; completes = completes-turn (l .joined) (turn k .loop .inv .completes) (c .before .before .write-record .ensures) }
+    record {
+      rest = l .rest;
+      left = l .left;
+      completes = completes-turn (l .joined) (turn k .loop .inv .completes)
+          (c .before .before .write-record .ensures);
+    }
 
 same-length : tie.Need-same-length Inv-loop μ-loop
 same-length c = completes-length (turn (c .before .before) .loop .inv .completes)
@@ -84,7 +93,8 @@ returns : tie.Need-returns Inv-loop μ-loop
 returns c =
     let k = c .before .before in
     let t = turn k .loop in
-    completes-end (left-finished (reel k) (t .place) (found k Step.Finished (c .enum-told .given .1)) (t .inv .left)) (t .inv .completes)
+    completes-end (left-finished (reel k) (t .place) (found k Step.Finished (c .enum-told .given .1)) (t .inv .left))
+    (t .inv .completes)
 
 write-refusal-requires : tie.Need-write-refusal-requires Inv-loop μ-loop
 write-refusal-requires c κs =
@@ -105,7 +115,8 @@ returns-2 c =
     let k = m .before .before in
     let t = turn k .loop in
     completes-last (t .inv .completes)
-    (written-as (sym (left-refused (reel k) (t .place) _ (found k _ (m .n .given .1)) (t .inv .left))) (w .write-refusal .ensures))
+    (written-as (sym (left-refused (reel k) (t .place) _ (found k _ (m .n .given .1)) (t .inv .left)))
+    (w .write-refusal .ensures))
 
 pub write-walk-spec : {M : Type 1} → statement M
 write-walk-spec =

@@ -11,7 +11,8 @@ use Rattle.reel.proofs.next_place.Statement.{statement}
 use Rattle.reel.proofs.next_place.Tie as tie
 
 -- by the case r of the step s
-after : (reel : List ℕ) (place : ℕ) (s r : Step) → shownStep s ≡ stepAt reel place → s ≡ r → placeAfter (shownStep r) place ≡ nextPlace reel place
+after : (reel : List ℕ) (place : ℕ) (s r : Step) → shownStep s ≡ stepAt reel place → s ≡ r
+    → placeAfter (shownStep r) place ≡ nextPlace reel place
 after reel place s r e is = ap (λ (f : Found). placeAfter f place) (ap shownStep (sym is) ∙ e)
 
 returns : tie.Need-returns

@@ -15,10 +15,12 @@ use Rattle.reel.proofs.record_at.Statement.{statement}
 use Rattle.reel.proofs.record_at.Tie as tie
 
 -- by the case r of the step s
-bytes : (reel : List ℕ) (place : ℕ) (s r : Step) → shownStep s ≡ stepAt reel place → s ≡ r → bytesFound (shownStep r) reel ≡ recordAt reel place
+bytes : (reel : List ℕ) (place : ℕ) (s r : Step) → shownStep s ≡ stepAt reel place → s ≡ r
+    → bytesFound (shownStep r) reel ≡ recordAt reel place
 bytes reel place s r e is = ap (λ (f : Found). bytesFound f reel) (ap shownStep (sym is) ∙ e)
 
-within : (reel : List ℕ) (place : ℕ) (s : Step) (start end : ℕ) → shownStep s ≡ stepAt reel place → s ≡ Record start end → (start ≤ end) × (end ≤ length reel)
+within : (reel : List ℕ) (place : ℕ) (s : Step) (start end : ℕ) → shownStep s ≡ stepAt reel place → s ≡ Record start end
+    → (start ≤ end) × (end ≤ length reel)
 within reel place s start end e is =
     let t = stands-at reel place start end (sym e ∙ ap shownStep is) in
     (omega (arith, t .header), t .inside)

@@ -17,12 +17,14 @@ module _ (reel : List ℕ) (place : ℕ) (h : place < length reel) where
   part : take (length reel - place) (drop place reel) ≡ drop place reel
   part = take-all (length reel - place) (drop place reel) (omega (arith, length-drop place reel))
 
-  at-refusal : (n : ℕ) → n ≡ restRefusal (take (length reel - place) (drop place reel)) → (n ≡ 0 → ⊥) → refused n ≡ stepAt reel place
+  at-refusal : (n : ℕ) → n ≡ restRefusal (take (length reel - place) (drop place reel)) → (n ≡ 0 → ⊥)
+      → refused n ≡ stepAt reel place
   at-refusal n e some =
       let e' : n ≡ restRefusal (drop place reel) = e ∙ ap restRefusal part in
       ap refused e' ∙ sym (step-found reel place h ∙ found-refused place (drop place reel) (λ z. some (e' ∙ z)))
 
-  at-record : (n w : ℕ) → n ≡ restRefusal (take (length reel - place) (drop place reel)) → n ≡ 0 → w ≡ wordsIn (take (length reel - place) (drop place reel))
+  at-record : (n w : ℕ) → n ≡ restRefusal (take (length reel - place) (drop place reel)) → n ≡ 0
+      → w ≡ wordsIn (take (length reel - place) (drop place reel))
       → accepted place (place + 2 * w) ≡ stepAt reel place
   at-record n w e none u =
       let e' : n ≡ restRefusal (drop place reel) = e ∙ ap restRefusal part in
@@ -47,7 +49,8 @@ returns-3 c =
     let w = k .before in
     let l = w .before .before in
     let a = l .before .before .args in
-    at-record (now (a .reel)) (a .place) (l .if1 .left) (k .rest-refusal .result) (w .words-in .result) (k .rest-refusal .ensures) (c .if2 .left) (w .words-in .ensures .0)
+    at-record (now (a .reel)) (a .place) (l .if1 .left) (k .rest-refusal .result) (w .words-in .result) (k .rest-refusal .ensures)
+    (c .if2 .left) (w .words-in .ensures .0)
 
 pub step-at-spec : {M : Type 1} → statement M
 step-at-spec =

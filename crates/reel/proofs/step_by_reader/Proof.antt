@@ -18,5 +18,7 @@ unfolding code.routine tablesOf
 step-by-reader-spec 𝓤 H 𝓜 𝓖 𝓡 =
     entered 𝓤 H (tripleOf 𝓤 H (𝓖 .A) self.signature (self.spec 𝓤 H (𝓖 .A) (𝓜 .mem) (𝓡 .run)))
     (tables 𝓤 H 𝓜 𝓡 code.env .C) (tables 𝓤 H 𝓜 𝓡 code.env .Λ) #self code.function (code.unfolded 𝓤 H 𝓜 𝓡)
-    (answers-made step is-step 𝓤 H (𝓖 .A) (givenOf 𝓤 H 𝓜 𝓖) S′.mir (step-typed 𝓤 H (𝓖 .A) (givenOf 𝓤 H 𝓜 𝓖)) #callee (tablesOf 𝓤 H 𝓜 (tables 𝓤 H 𝓜 𝓡 code.env))
-    (cited 𝓤 H (tripleOf 𝓤 H (𝓖 .A) callee.signature (callee.spec 𝓤 H (𝓖 .A) (𝓜 .mem) (𝓡 .run))) 𝓜 𝓡 code.env #callee callee-def.routine code.calls-reel·Reader·peek (callee-thm.met 𝓤 H 𝓜 𝓖 𝓡)))
+    (answers-made step is-step 𝓤 H (𝓖 .A) (givenOf 𝓤 H 𝓜 𝓖) S′.mir (step-typed 𝓤 H (𝓖 .A) (givenOf 𝓤 H 𝓜 𝓖)) #callee
+    (tablesOf 𝓤 H 𝓜 (tables 𝓤 H 𝓜 𝓡 code.env))
+    (cited 𝓤 H (tripleOf 𝓤 H (𝓖 .A) callee.signature (callee.spec 𝓤 H (𝓖 .A) (𝓜 .mem) (𝓡 .run))) 𝓜 𝓡 code.env #callee
+    callee-def.routine code.calls-reel·Reader·peek (callee-thm.met 𝓤 H 𝓜 𝓖 𝓡)))

@@ -33,8 +33,11 @@ pub +write-decimal-spec : {M : Type 1} → statement M
     let a = c .before .before .before in
     room-as (one-digit (a .args .n) (c .before .if1 .taken)) (a .pre .1))
     (λ c κs.
-    let a = c .before .before .before in
-    (omega (arith, a .pre .0), room-first (digit (a .args .n) ∷ []) (more-digits (a .args .n) (c .before .if1 .left)) (a .pre .1)))
+    let a = c .before .before .before in (
+      omega (arith, a .pre .0),
+      room-first (digit (a .args .n) ∷ []) (more-digits (a .args .n) (c .before .if1 .left))
+          (a .pre .1),
+    ))
     (λ c κs.
     let lead = c .before .before .before in
     let a = lead .before .before .before .before in
@@ -47,4 +50,5 @@ pub +write-decimal-spec : {M : Type 1} → statement M
     (λ c.
     let lead = c .before .before .before .before .before .before in
     let a = lead .before .before .before .before in
-    written-both (more-digits (a .args .n) (lead .before .before .if1 .left)) (lead .write-decimal .ensures) (c .before .before .write-digit2 .ensures)))
+    written-both (more-digits (a .args .n) (lead .before .before .if1 .left)) (lead .write-decimal .ensures)
+    (c .before .before .write-digit2 .ensures)))

@@ -31,30 +31,46 @@ below t = and 1 kinds.ps (falls 1 kinds.ps _<_ number t) reads.Pre
 pub +write-fixed-spec : {M : Type 1} → statement M
 +write-fixed-spec =
     close number
-    (λ t. lts.spec (write-decimal-reads.Asked, write-decimal-reads.Learnt, write-byte-reads.Asked, write-byte-reads.Learnt, below t, reads.Post, write-digit-reads.Asked, write-digit-reads.Learnt) (here t) reads.Post
+    (λ t. lts.spec (
+      write-decimal-reads.Asked,
+      write-decimal-reads.Learnt,
+      write-byte-reads.Asked,
+      write-byte-reads.Learnt,
+      below t,
+      reads.Post,
+      write-digit-reads.Asked,
+      write-digit-reads.Learnt,
+    ) (here t) reads.Post
     (λ c κs.
     let a = c .before .before .before in
     room-first (ascii ".") (fixed-none (a .args .places) (a .args .n) (c .before .if1 .taken)) (a .pre .1))
     (λ c κs.
     let whole = c .before .before .before in
     let a = whole .before .before .before .before in
-    room-rest (fixed-none (a .args .places) (a .args .n) (whole .before .before .if1 .taken)) (a .pre .1) (whole .write-decimal .ensures))
+    room-rest (fixed-none (a .args .places) (a .args .n) (whole .before .before .if1 .taken)) (a .pre .1)
+    (whole .write-decimal .ensures))
     (λ c. search needs)
     (λ c κs.
     let a = c .before .before .before in
-    let h = c .before .if1 .left in
-    (omega (arith, a .pre .0, h), room-first (digit (a .args .n) ∷ []) (fixed-more (a .args .places) (a .args .n) (omega (arith, h))) (a .pre .1)))
+    let h = c .before .if1 .left in (
+      omega (arith, a .pre .0, h),
+      room-first (digit (a .args .n) ∷ [])
+          (fixed-more (a .args .places) (a .args .n) (omega (arith, h))) (a .pre .1),
+    ))
     (λ c κs.
     let lead = c .before .before .before in
     let a = lead .before .before .before .before in
-    room-rest (fixed-more (a .args .places) (a .args .n) (omega (arith, lead .before .before .if1 .left))) (a .pre .1) (lead .write-fixed .ensures))
+    room-rest (fixed-more (a .args .places) (a .args .n) (omega (arith, lead .before .before .if1 .left))) (a .pre .1)
+    (lead .write-fixed .ensures))
     (λ c. search needs)
     (λ c.
     let whole = c .before .before .before .before .before .before in
     let a = whole .before .before .before .before in
-    written-both (fixed-none (a .args .places) (a .args .n) (whole .before .before .if1 .taken)) (whole .write-decimal .ensures) (c .before .before .write-byte .ensures))
+    written-both (fixed-none (a .args .places) (a .args .n) (whole .before .before .if1 .taken)) (whole .write-decimal .ensures)
+    (c .before .before .write-byte .ensures))
     (λ c. search needs)
     (λ c.
     let lead = c .before .before .before .before .before .before in
     let a = lead .before .before .before .before in
-    written-both (fixed-more (a .args .places) (a .args .n) (omega (arith, lead .before .before .if1 .left))) (lead .write-fixed .ensures) (c .before .before .write-digit .ensures)))
+    written-both (fixed-more (a .args .places) (a .args .n) (omega (arith, lead .before .before .if1 .left)))
+    (lead .write-fixed .ensures) (c .before .before .write-digit .ensures)))

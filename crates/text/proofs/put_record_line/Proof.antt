@@ -13,10 +13,12 @@ use Rattle.text.proofs.put_record_line.Statement.{statement}
 use Rattle.text.proofs.put_record_line.Tie as tie
 
 small : (a : tie.Start) → length (recordLine (a .args .columns)) ≤ longestOfWords
-small a = let f = a .good .1 .1 .0 .1 .1 in word-line (a .args .columns) (f .0 .1) (f .1 .0 .1) (f .1 .1 .0 .1) (f .1 .1 .1 .0 .1) (f .1 .1 .1 .1 .0 .1)
+small a = let f = a .good .1 .1 .0 .1 .1 in word-line (a .args .columns) (f .0 .1) (f .1 .0 .1) (f .1 .1 .0 .1) (f .1 .1 .1 .0 .1)
+    (f .1 .1 .1 .1 .0 .1)
 
 -- what was written is the line
-written : (c : tie.After-write-record-line) → (c .write-record-line .result ≤ length (c .write-record-line .last .0)) × (take (c .write-record-line .result) (c .write-record-line .last .0) ≡ recordLine (c .before .before .before .args .columns))
+written : (c : tie.After-write-record-line) → (c .write-record-line .result ≤ length (c .write-record-line .last .0)) ×
+    (take (c .write-record-line .result) (c .write-record-line .last .0) ≡ recordLine (c .before .before .before .args .columns))
 written c = front (omega (arith, small (c .before .before .before))) (c .write-record-line .ensures)
 
 returns : tie.Need-returns
@@ -24,8 +26,11 @@ returns c =
     let put = c .before .before in
     let w = put .before .before .before .before in
     let a = w .before .before .before .args in
-    let line = written w .1 in
-    (put .put-text .ensures .0 ∙ ap (answerAt (a .out .now) (a .at)) line, put .put-text .ensures .1 ∙ ap (bufferAt (a .out .now) (a .at)) line)
+    let line = written w .1 in (
+      put .put-text .ensures .0 ∙ ap (answerAt (a .out .now) (a .at)) line,
+      put .put-text .ensures .1
+          ∙ ap (bufferAt (a .out .now) (a .at)) line,
+    )
 
 pub put-record-line-spec : {M : Type 1} → statement M
 put-record-line-spec =

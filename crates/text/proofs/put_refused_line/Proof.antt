@@ -15,10 +15,13 @@ use Rattle.text.proofs.put_refused_line.Statement.{statement}
 use Rattle.text.proofs.put_refused_line.Tie as tie
 
 small : (a : tie.Start) → length (refusedLine (a .args .number)) ≤ longestOfWords
-small a = let h = refusedLine-length 20 (a .args .number) (lit< tt) (lt-of-lt-of-le (a .fits .number .fits) (lit≤ tt)) in omega arith
+small a = let h = refusedLine-length 20 (a .args .number) (lit< tt) (lt-of-lt-of-le (a .fits .number .fits) (lit≤ tt)) in
+    omega arith
 
 -- what was written is the line
-written : (c : tie.After-write-refused-line) → (c .write-refused-line .result ≤ length (c .write-refused-line .last .0)) × (take (c .write-refused-line .result) (c .write-refused-line .last .0) ≡ refusedLine (c .before .before .before .args .number))
+written : (c : tie.After-write-refused-line) → (c .write-refused-line .result ≤ length (c .write-refused-line .last .0)) ×
+    (take (c .write-refused-line .result) (c .write-refused-line .last .0) ≡ refusedLine
+    (c .before .before .before .args .number))
 written c = front (omega (arith, small (c .before .before .before))) (c .write-refused-line .ensures)
 
 returns : tie.Need-returns
@@ -26,8 +29,11 @@ returns c =
     let put = c .before .before in
     let w = put .before .before .before .before in
     let a = w .before .before .before .args in
-    let line = written w .1 in
-    (put .put-text .ensures .0 ∙ ap (answerAt (a .out .now) (a .at)) line, put .put-text .ensures .1 ∙ ap (bufferAt (a .out .now) (a .at)) line)
+    let line = written w .1 in (
+      put .put-text .ensures .0 ∙ ap (answerAt (a .out .now) (a .at)) line,
+      put .put-text .ensures .1
+          ∙ ap (bufferAt (a .out .now) (a .at)) line,
+    )
 
 pub put-refused-line-spec : {M : Type 1} → statement M
 put-refused-line-spec =

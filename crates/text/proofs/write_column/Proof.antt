@@ -9,7 +9,8 @@ write-decimal-requires : tie.Need-write-decimal-requires
 write-decimal-requires c κs = room-first (ascii ",") refl (c .before .before .pre)
 
 write-byte-requires : tie.Need-write-byte-requires
-write-byte-requires c κs = let n = c .before .before .before in room-rest refl (n .before .before .before .pre) (n .write-decimal .ensures)
+write-byte-requires c κs = let n = c .before .before .before in
+    room-rest refl (n .before .before .before .pre) (n .write-decimal .ensures)
 
 returns : tie.Need-returns
 returns c =

@@ -36,18 +36,22 @@ abbrev third : tie.After-write-frequency → tie.After-write-column3
 third c = c .before .before .before .before
 
 -- the room behind each
-room-one : (c : tie.After-write-column) → Room (c .write-column .last .0) (c .write-column .result) (from-second (entry c .args .columns))
+room-one : (c : tie.After-write-column) → Room (c .write-column .last .0) (c .write-column .result)
+    (from-second (entry c .args .columns))
 unfolding recordLine
 room-one c = room-rest refl (entry c .pre) (c .write-column .ensures)
 
-room-two : (c : tie.After-write-column2) → Room (c .write-column2 .last .0) (c .write-column2 .result) (from-third (entry (first c) .args .columns))
+room-two : (c : tie.After-write-column2) → Room (c .write-column2 .last .0) (c .write-column2 .result)
+    (from-third (entry (first c) .args .columns))
 room-two c = room-rest refl (room-one (first c)) (c .write-column2 .ensures)
 
-room-three : (c : tie.After-write-column3) → Room (c .write-column3 .last .0) (c .write-column3 .result) (from-fourth (entry (first (second c)) .args .columns))
+room-three : (c : tie.After-write-column3) → Room (c .write-column3 .last .0) (c .write-column3 .result)
+    (from-fourth (entry (first (second c)) .args .columns))
 room-three c = room-rest refl (room-two (second c)) (c .write-column3 .ensures)
 
 -- the rate comes to the callee as it is read of its bits
-rate-read : (c : tie.After-struct-told) → let z = entry (first (second (third (c .before .before .before .before)))) .args .columns .«frequency_rate_units» in toZ w64 (ofZ w64 z) ≡ z
+rate-read : (c : tie.After-struct-told) → let z = entry (first
+    (second (third (c .before .before .before .before)))) .args .columns .«frequency_rate_units» in toZ w64 (ofZ w64 z) ≡ z
 rate-read c = toZ-ofZ (record { sfits = c .struct-told .given .1 .1 .1 .1 .0 .1 })
 
 write-column-requires : tie.Need-write-column-requires

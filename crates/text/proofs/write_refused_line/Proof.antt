@@ -12,7 +12,8 @@ abbrev entry : tie.After-write-text → tie.Start
 entry c = c .before .before .before .before
 
 -- the room behind the word
-room-number : (c : tie.After-write-text) → Room (c .write-text .last .0) (c .write-text .result) (decimalText (entry c .args .number) ++ ascii "\n")
+room-number : (c : tie.After-write-text) → Room (c .write-text .last .0) (c .write-text .result)
+    (decimalText (entry c .args .number) ++ ascii "\n")
 unfolding refusedLine
 room-number c = room-rest refl (entry c .pre) (c .write-text .ensures)
 
@@ -35,7 +36,8 @@ unfolding refusedLine
 returns c =
     let feed = c .before .before in
     let number = feed .before .before .before .before in
-    written-both refl (number .before .before .before .before .write-text .ensures) (written-both refl (number .write-decimal .ensures) (feed .write-byte .ensures))
+    written-both refl (number .before .before .before .before .write-text .ensures)
+    (written-both refl (number .write-decimal .ensures) (feed .write-byte .ensures))
 
 pub write-refused-line-spec : {M : Type 1} → statement M
 write-refused-line-spec =

@@ -9,20 +9,27 @@ use Rattle.text.proofs.write_signed_fixed.Statement.{statement}
 use Rattle.text.proofs.write_signed_fixed.Tie as tie
 
 -- the text on each of the two ways
-minus : (c : tie.Then1) → ascii "-" ++ fixed (c .before .before .before .before .args .places) (c .before .before .magnitude .result) ≡ signedFixed (c .before .before .before .before .args .places) (c .before .before .before .before .args .value)
+minus : (c : tie.Then1) → ascii "-" ++ fixed (c .before .before .before .before .args .places)
+    (c .before .before .magnitude .result) ≡ signedFixed (c .before .before .before .before .args .places)
+    (c .before .before .before .before .args .value)
 minus c =
     let a = c .before .before .before .before in
-    signed-below (a .args .places) (a .fits .value) (c .before .before .magnitude .ensures) (sym (c .before .below-zero .ensures) ∙ c .if1 .taken)
+    signed-below (a .args .places) (a .fits .value) (c .before .before .magnitude .ensures)
+    (sym (c .before .below-zero .ensures) ∙ c .if1 .taken)
 
-plain : (c : tie.Else1) → fixed (c .before .before .before .before .args .places) (c .before .before .magnitude .result) ≡ signedFixed (c .before .before .before .before .args .places) (c .before .before .before .before .args .value)
+plain : (c : tie.Else1) → fixed (c .before .before .before .before .args .places)
+    (c .before .before .magnitude .result) ≡ signedFixed (c .before .before .before .before .args .places)
+    (c .before .before .before .before .args .value)
 plain c =
     let a = c .before .before .before .before in
-    signed-not-below (a .args .places) (a .fits .value) (c .before .before .magnitude .ensures) (sym (c .before .below-zero .ensures) ∙ c .if1 .left)
+    signed-not-below (a .args .places) (a .fits .value) (c .before .before .magnitude .ensures)
+    (sym (c .before .below-zero .ensures) ∙ c .if1 .left)
 
 write-byte-requires : tie.Need-write-byte-requires
 write-byte-requires c κs =
     let t = c .before in
-    room-first (fixed (t .before .before .before .before .args .places) (t .before .before .magnitude .result)) (minus t) (t .before .before .before .before .pre)
+    room-first (fixed (t .before .before .before .before .args .places) (t .before .before .magnitude .result)) (minus t)
+    (t .before .before .before .before .pre)
 
 write-fixed-requires : tie.Need-write-fixed-requires
 write-fixed-requires c κs =

@@ -38,7 +38,8 @@ same-length c =
     ap length (c .before .loop .inv .1 .buffer) ∙ length-sets (a .out .now) (a .at) (take (c .before .loop .i) (a .text .now))
 
 returns : tie.Need-returns Inv-loop μ-loop
-returns c = written-as (take-all (c .before .loop .i) (c .before .before .args .text .now) (c .loop-test .left)) (c .before .loop .inv .1)
+returns c = written-as (take-all (c .before .loop .i) (c .before .before .args .text .now) (c .loop-test .left))
+    (c .before .loop .inv .1)
 
 pub write-text-spec : {M : Type 1} → statement M
 write-text-spec =

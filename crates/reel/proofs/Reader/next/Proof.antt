@@ -1,4 +1,5 @@
--- A walk of the MIR, by hand: the reader is taken apart, `next_place` is called on the reel and the place, and the reader is made anew
+-- A walk of the MIR, by hand: the reader is taken apart, `next_place` is called on the reel and the place, and the reader is made
+-- anew
 -- at the place that comes back. Assumes nothing.
 use mathlib.Core.Path.{_≡_, refl, ap, _∙_}
 use Prim.Native.Nat.{ℕ, _<_, _^_}
@@ -16,7 +17,8 @@ use contract.Monad.{fact}
 use contract.Running.{givenOf, tables, tablesOf}
 use types.Kit.{Given, ‵, raw, _⊛_, ⋆, some, later, _$_, _∵_, !, qed, by, move, drop, use1, use2, rewrite, split, pick, await}
 use types.Part.{agg, whole, sub, look-in}
-use types.Run.{look, init, forget, stop, fld, from, load, of-opd, and-then, no-more, assigns, land, returns, enter, alloc1, alloc0, params1, pass1, pass0, free1, free0}
+use types.Run.{look, init, forget, stop, fld, from, load, of-opd, and-then, no-more, assigns, land, returns, enter, alloc1}
+use types.Run.{alloc0, params1, pass1, pass0, free1, free0}
 use sound.WpLaws.{FmC, fmOf}
 use denote.Laws.{Is, shows}
 use denote.Plain.{uint-makes, uint-lawful}
@@ -61,39 +63,62 @@ reader = plain B
 abbrev is-moved : Promise reader
 is-moved κs d r = r ≡ movedOn d
 
-module _ {M : Type 1} (𝓤 : URA M) (H : Heap 𝓤) (A : Atoms 𝓤) (W : Given 𝓤 H A) (C : Calls 𝓤 H) (Λ : Loops 𝓤 H) (fm : FmC 𝓤 H (W .laws) C) (known : Triple 𝓤 (C #callee) (Function number is-place 𝓤 H A)) (κ : Lft) (q : Share) (d : Reader) where
+module _ {M : Type 1} (𝓤 : URA M) (H : Heap 𝓤) (A : Atoms 𝓤) (W : Given 𝓤 H A) (C : Calls 𝓤 H) (Λ : Loops 𝓤 H)
+    (fm : FmC 𝓤 H (W .laws) C) (known : Triple 𝓤 (C #callee) (Function number is-place 𝓤 H A)) (κ : Lft) (q : Share)
+    (d : Reader) where
   abbrev F : Contract 𝓤
   F = Function number is-place 𝓤 H A
 
   abbrev to : F .Ghost
   to = contracts.to-function number is-place 𝓤 H A W κ q d
 
-  exits : (r : ℕ) (u : Val) → is-place (κ, tt) d r → r < 2 ^ 64 → ent 𝓤 (⋆ 𝓤 H A (‵ (usize .own r (u ∷ [])) ∷ (‵ (flft κ q) ⊛ ‵ ftrue) ∷ ‵ (Own κ d) ∷ [])) (contracts.method-post reader is-moved 𝓤 H A W κ q d (mach (at-place d r)))
+  exits : (r : ℕ) (u : Val) → is-place (κ, tt) d r → r < 2 ^ 64
+      → ent 𝓤 (⋆ 𝓤 H A (‵ (usize .own r (u ∷ [])) ∷ (‵ (flft κ q) ⊛ ‵ ftrue) ∷ ‵ (Own κ d) ∷ []))
+      (contracts.method-post reader is-moved 𝓤 H A W κ q d (mach (at-place d r)))
   exits r u e fits =
       qed W (‵ (usize .own r (u ∷ [])) ∷ (‵ (flft κ q) ⊛ ‵ ftrue) ∷ ‵ (Own κ d) ∷ []) ∵ drop ! $
       -- [the token; what the reader owns]: of a second copy, the number's facts take the place of place's
       move ! (1 ∷ []) $ use1 W (‵ (Own κ d) ⊛ ‵ (Own κ d)) (held.twice 𝓤 H A W κ q d) $ split ! $
       owned ! usize (Is usize) (uint-makes 𝓤 H A W w64) r _ (refl, fits) $ move ! (1 ∷ 0 ∷ []) $
       use2 W (‵ (Own κ (at-place d r))) (own-put 𝓤 H A W (D (κ, tt)) (L (κ, tt)) 1 (vd (κ, tt) d) r (mach d)) $
-      move ! (0 ∷ 2 ∷ 1 ∷ []) $ by ! (contracts.method-ends reader is-moved 𝓤 H A W κ q d (at-place d r) (mach (at-place d r)) (ap (at-place d) e ∙ moved-by d (stepOf d)))
+      move ! (0 ∷ 2 ∷ 1 ∷ []) $ by ! (contracts.method-ends reader is-moved 𝓤 H A W κ q d (at-place d r) (mach (at-place d r))
+      (ap (at-place d) e ∙ moved-by d (stepOf d)))
 
-  walk : Holds (hasTy (T′.mir (named 0)) (mach d)) × WT (mach d) → ent 𝓤 (held.reader-held 𝓤 H A W κ q d) (WpFn 𝓤 H C Λ code.function (mach d ∷ []) (contracts.method-post reader is-moved 𝓤 H A W κ q d))
+  walk : Holds (hasTy (T′.mir (named 0)) (mach d)) × WT (mach d)
+      → ent 𝓤 (held.reader-held 𝓤 H A W κ q d) (WpFn 𝓤 H C Λ code.function (mach d ∷ [])
+      (contracts.method-post reader is-moved 𝓤 H A W κ q d))
   walk wt =
       qed W (raw (held.reader-held 𝓤 H A W κ q d) ∷ []) ∵ enter ! C Λ code.function (mach d ∷ []) _ $
-      alloc1 ! (λ l₀. alloc1 ! (λ l₁. alloc1 ! (λ l₂. alloc1 ! (λ l₃. alloc1 ! (λ l₄. alloc1 ! (λ l₅. alloc0 ! $ params1 ! $ pass1 ! (init ! 8 refl wt) $ pass0 ! $
-      assigns ! (of-opd ! (load ! (from ! (fld ! refl (stop !))) (look-in ! 8 (sub ! 0 refl (whole !))))) (from ! (stop !)) (init ! 4 refl (tt, wt .1 .0)) $
-      assigns ! (of-opd ! (load ! (from ! (fld ! refl (stop !))) (look-in ! 8 (sub ! 1 refl (whole !))))) (from ! (stop !)) (init ! 2 refl (tt, wt .1 .1 .0)) $
-      move ! (12 ∷ []) $ use1 W (raw (F .pre to) ⊛ ‵ (Own κ d)) (held.apart 𝓤 H A W κ q d (F .pre to) (contracts.function-asks number is-place 𝓤 H A W κ q d) (wt .1 .1 .0 .fits)) $ split ! $
-      calls-at ! fm F known to (and-then ! (load ! (from ! (stop !)) (look ! 6 refl)) (and-then ! (load ! (from ! (stop !)) (look ! 4 refl)) (no-more !))) (λ u.
-      use1 W (later (some (λ (r : ℕ). ((‵ (flft κ q) ⊛ ‵ ftrue) ⊛ ‵ (usize .own r (u ∷ []))) ⊛ raw (ensured 𝓤 H A (function number) (function-says number is-place 𝓤) (κ, tt) (d .reel, (d .place, tt)) tt r)))) (id⊢ 𝓤 _) $ await ! tt $ pick ! (λ r.
-      split ! $ move ! (1 ∷ []) $ use1 W (raw (fact 𝓤 (is-place (κ, tt) d r))) (contracts.function-said number is-place 𝓤 H A W κ q d r) $ heard ! (is-place (κ, tt) d r) (λ e. split ! $ move ! (1 ∷ []) $
+      alloc1 ! (λ l₀. alloc1 ! (λ l₁. alloc1 ! (λ l₂. alloc1 !
+      (λ l₃. alloc1 ! (λ l₄. alloc1 ! (λ l₅. alloc0 ! $ params1 ! $ pass1 ! (init ! 8 refl wt) $ pass0 ! $
+      assigns ! (of-opd ! (load ! (from ! (fld ! refl (stop !))) (look-in ! 8 (sub ! 0 refl (whole !))))) (from ! (stop !))
+      (init ! 4 refl (tt, wt .1 .0)) $
+      assigns ! (of-opd ! (load ! (from ! (fld ! refl (stop !))) (look-in ! 8 (sub ! 1 refl (whole !))))) (from ! (stop !))
+      (init ! 2 refl (tt, wt .1 .1 .0)) $
+      move ! (12 ∷ []) $ use1 W (raw (F .pre to) ⊛ ‵ (Own κ d))
+      (held.apart 𝓤 H A W κ q d (F .pre to) (contracts.function-asks number is-place 𝓤 H A W κ q d) (wt .1 .1 .0 .fits)) $
+      split ! $
+      calls-at ! fm F known to (and-then ! (load ! (from ! (stop !)) (look ! 6 refl))
+      (and-then ! (load ! (from ! (stop !)) (look ! 4 refl)) (no-more !))) (λ u.
+      use1 W (later (some (λ (r : ℕ). ((‵ (flft κ q) ⊛ ‵ ftrue) ⊛ ‵ (usize .own r (u ∷ []))) ⊛ raw
+      (ensured 𝓤 H A (function number) (function-says number is-place 𝓤) (κ, tt) (d .reel, (d .place, tt)) tt r))))
+      (id⊢ 𝓤 _) $ await ! tt $ pick ! (λ r.
+      split ! $ move ! (1 ∷ []) $ use1 W (raw (fact 𝓤 (is-place (κ, tt) d r)))
+      (contracts.function-said number is-place 𝓤 H A W κ q d r) $
+      heard ! (is-place (κ, tt) d r) (λ e. split ! $ move ! (1 ∷ []) $
       -- [the result; the token; what the reader owns; _5; …; _4; …; _3; …; _2; …; _1; …; room for _0; …]
       peeks ! usize (Is usize) (shows 𝓤 H A usize) r (u ∷ []) (λ is.
-      land ! (from ! (stop !)) (init ! 9 refl (uint-lawful 𝓤 H A W w64 .typed r _ is .0)) $ rewrite ! 9 (λ (w : Val). ‵ (fat fullShare (tyInt w64) l₂ 0 w)) (ap only (is .0)) refl $
-      assigns ! (of-opd ! (load ! (from ! (fld ! refl (stop !))) (look-in ! 11 (sub ! 0 refl (whole !))))) (from ! (stop !)) (init ! 3 refl (tt, wt .1 .0)) $
-      assigns ! (agg ! (and-then ! (load ! (from ! (stop !)) (look ! 3 refl)) (and-then ! (load ! (from ! (stop !)) (look ! 9 refl)) (no-more !)))) (from ! (stop !)) (init ! 13 refl (tt, (wt .1 .0, (record { fits = is .1 }, tt)))) $
-      returns ! (look ! 13 refl) $ forget ! 3 refl $ forget ! 5 refl $ forget ! 7 refl $ forget ! 9 refl $ forget ! 11 refl $ forget ! 13 refl $
-      move ! (13 ∷ 14 ∷ []) $ free1 ! $ move ! (11 ∷ 12 ∷ []) $ free1 ! $ move ! (9 ∷ 10 ∷ []) $ free1 ! $ move ! (7 ∷ 8 ∷ []) $ free1 ! $ move ! (5 ∷ 6 ∷ []) $ free1 ! $ move ! (3 ∷ 4 ∷ []) $ free1 ! $ free0 ! $ by ! (exits r u e (is .1))))))))))))
+      land ! (from ! (stop !)) (init ! 9 refl (uint-lawful 𝓤 H A W w64 .typed r _ is .0)) $
+      rewrite ! 9 (λ (w : Val). ‵ (fat fullShare (tyInt w64) l₂ 0 w)) (ap only (is .0)) refl $
+      assigns ! (of-opd ! (load ! (from ! (fld ! refl (stop !))) (look-in ! 11 (sub ! 0 refl (whole !))))) (from ! (stop !))
+      (init ! 3 refl (tt, wt .1 .0)) $
+      assigns ! (agg ! (and-then ! (load ! (from ! (stop !)) (look ! 3 refl))
+      (and-then ! (load ! (from ! (stop !)) (look ! 9 refl)) (no-more !)))) (from ! (stop !))
+      (init ! 13 refl (tt, (wt .1 .0, (record { fits = is .1 }, tt)))) $
+      returns ! (look ! 13 refl) $ forget ! 3 refl $ forget ! 5 refl $ forget ! 7 refl $ forget ! 9 refl $ forget ! 11 refl $
+      forget ! 13 refl $
+      move ! (13 ∷ 14 ∷ []) $ free1 ! $ move ! (11 ∷ 12 ∷ []) $ free1 ! $ move ! (9 ∷ 10 ∷ []) $ free1 ! $ move ! (7 ∷ 8 ∷ []) $
+      free1 ! $ move ! (5 ∷ 6 ∷ []) $ free1 ! $ move ! (3 ∷ 4 ∷ []) $ free1 ! $ free0 ! $ by ! (exits r u e (is .1))))))))))))
 
 pub next-spec : {M : Type 1} → stated.statement M
 unfolding code.routine tablesOf
@@ -103,4 +128,5 @@ next-spec 𝓤 H 𝓜 𝓖 𝓡 =
     entered 𝓤 H (tripleOf 𝓤 H (𝓖 .A) self.signature (self.spec 𝓤 H (𝓖 .A) (𝓜 .mem) (𝓡 .run)))
     (tables 𝓤 H 𝓜 𝓡 code.env .C) (tables 𝓤 H 𝓜 𝓡 code.env .Λ) #self code.function (code.unfolded 𝓤 H 𝓜 𝓡)
     (contracts.method-met reader is-moved 𝓤 H (𝓖 .A) W code.function 𝓣 (walk 𝓤 H (𝓖 .A) W (𝓣 .C) (𝓣 .Λ) (fmOf 𝓤 H (W .laws) 𝓣)
-    (cited 𝓤 H (tripleOf 𝓤 H (𝓖 .A) callee.signature (callee.spec 𝓤 H (𝓖 .A) (𝓜 .mem) (𝓡 .run))) 𝓜 𝓡 code.env #callee callee-def.routine code.calls-reel·next-place (callee-thm.met 𝓤 H 𝓜 𝓖 𝓡))))
+    (cited 𝓤 H (tripleOf 𝓤 H (𝓖 .A) callee.signature (callee.spec 𝓤 H (𝓖 .A) (𝓜 .mem) (𝓡 .run))) 𝓜 𝓡 code.env #callee
+    callee-def.routine code.calls-reel·next-place (callee-thm.met 𝓤 H 𝓜 𝓖 𝓡))))
