@@ -1,9 +1,9 @@
--- What a call answers. 01: "Beside a refusal's number any other part of an answer is 0 or empty".
+-- What a call answers: beside a refusal's number any other part is 0 or empty. FORMAT, "Refusal numbers".
 use Prim.Native.Nat.{ℕ}
 use mathlib.Core.Bool.{Bool, true, false, cond}
 use lib.Dec.{eqb}
 
--- the refusal number of 01, 0 for none, the value, and whether a value is given: a refusal that bore the number 0 would not pass
+-- the refusal number, 0 for none, the value, and whether a value is given: a refusal that bore the number 0 would not pass
 -- for the value 0
 pub record Answer (A : Type 0) : Type 0 where
   pub number : ℕ

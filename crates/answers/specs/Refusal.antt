@@ -1,4 +1,4 @@
--- Refusals in the order of checking: the first that applies is the answer. 01: "Refusal numbers, in the order of checking".
+-- Refusals in the order of checking: the first that applies is the answer. FORMAT, "Refusal numbers".
 use Prim.Native.Nat.{ℕ}
 use mathlib.Core.Bool.{Bool, cond}
 use mathlib.Core.List.{List, [], _∷_}

@@ -1,4 +1,4 @@
--- A phase in cycles. 01: "A phase in cycles is exact: the 48-bit count over 256, as a 64-bit float".
+-- A phase in cycles. FORMAT, "Times and phases".
 use Prim.Native.Nat.{ℕ, _^_}
 use mathlib.Core.Bool.{false}
 use lib.Ieee.{Float, binary64, round}

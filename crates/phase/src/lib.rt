@@ -1,4 +1,4 @@
-// A phase in cycles from its 48-bit count. 01: "A phase in cycles is exact: the 48-bit count over 256, as a 64-bit float".
+// A phase in cycles from its 48-bit count. FORMAT, "Times and phases".
 ghost use mathlib.Core.Path.{_≡_};
 ghost use mathlib.Core.Bool.{false};
 ghost use Prim.Native.Nat.{_%_, _^_};

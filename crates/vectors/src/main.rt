@@ -1,4 +1,4 @@
-// 01's "Values worked by hand" that are not marked P, run on the library: each line says what was asked and the refusal number,
+// Cases worked by hand that are run, not proved (FORMAT, "Cases worked by hand"): each line says what was asked and the refusal number,
 // 0 for none. Those marked P are proved in crate `worked`.
 use index_model::Opening;
 use index_model::WIDTH;
@@ -18,7 +18,7 @@ fn set_word(bytes: &mut [u8; 780], word: usize, value: u16) {
     bytes[at + 1] = (value % 256) as u8;
 }
 
-// 01's lister case: an accepted record of 390 words at 200 samples a second.
+// The lister's case: an accepted record of 390 words at 200 samples a second.
 fn lister_case() -> [u8; 780] {
     let mut bytes = [0u8; 780];
     set_word(&mut bytes, 1, 0x8101);
@@ -71,7 +71,12 @@ fn print_puts(o: Opening, rows: &mut [u32; 3 * WIDTH], seconds: &mut [u32; WIDTH
     );
 }
 
-fn put_again(o: Opening, bytes: &[u8; 780], rows: &mut [u32; 3 * WIDTH], seconds: &mut [u32; WIDTH]) -> u8 {
+fn put_again(
+    o: Opening,
+    bytes: &[u8; 780],
+    rows: &mut [u32; 3 * WIDTH],
+    seconds: &mut [u32; WIDTH],
+) -> u8 {
     index_update::insert(o, bytes, rows, seconds)
 }
 
