@@ -1,4 +1,3 @@
--- The definition's tests, with that of F + C put in. Assumes nothing.
 use mathlib.Core.Path.{ap}
 use mathlib.Core.Bool.{Bool, _||_}
 use lib.Dec.{eqb, ltb}
@@ -6,9 +5,6 @@ use Rattle.index_model.specs.Opening.{highestLimit, daySeconds, limitsWrong}
 use borrow.Author.Needs.{needs}
 use Rattle.index_open.proofs.limits_wrong.Statement.{statement}
 use Rattle.index_open.proofs.limits_wrong.Tie as tie
-
-past-day-requires : tie.Need-past-day-requires
-past-day-requires c κs = search needs
 
 returns : tie.Need-returns
 unfolding limitsWrong
@@ -20,4 +16,4 @@ returns c =
     (p .past-day .ensures)
 
 pub limits-wrong-spec : {M : Type 1} → statement M
-limits-wrong-spec = tie.close (tie.spec past-day-requires returns)
+limits-wrong-spec = tie.close (tie.spec (λ c κs. search needs) returns)

@@ -1,4 +1,3 @@
--- The cells of a second as an answer: its counts, the totals of its channels, and the verdict. Assumes nothing.
 use mathlib.Core.Path.{_∙_}
 use Rattle.lists.specs.Fill.{tab}
 use Rattle.answers.specs.Answer.{accepted}
@@ -7,30 +6,6 @@ use lib.ListN.{getD}
 use borrow.Author.Needs.{needs}
 use Rattle.index_query.proofs.second_from.Statement.{statement}
 use Rattle.index_query.proofs.second_from.Tie as tie
-
-array-read-sample-count : tie.Need-array-read-sample-count
-array-read-sample-count c = search needs
-
-sample-count-requires : tie.Need-sample-count-requires
-sample-count-requires c κs = search needs
-
-totals-from-requires : tie.Need-totals-from-requires
-totals-from-requires c κs = search needs
-
-array-read-t8 : tie.Need-array-read-t8
-array-read-t8 c = search needs
-
-array-read-t14 : tie.Need-array-read-t14
-array-read-t14 c = search needs
-
-array-read-t17 : tie.Need-array-read-t17
-array-read-t17 c = search needs
-
-full-count-requires : tie.Need-full-count-requires
-full-count-requires c κs = search needs
-
-is-kept-requires : tie.Need-is-kept-requires
-is-kept-requires c κs = search needs
 
 returns : tie.Need-returns
 unfolding secondShown
@@ -54,12 +29,12 @@ pub second-from-spec : {M : Type 1} → statement M
 second-from-spec =
     tie.close
     (tie.spec
-    array-read-sample-count
-    sample-count-requires
-    totals-from-requires
-    array-read-t8
-    array-read-t14
-    array-read-t17
-    full-count-requires
-    is-kept-requires
+    (λ c. search needs)
+    (λ c κs. search needs)
+    (λ c κs. search needs)
+    (λ c. search needs)
+    (λ c. search needs)
+    (λ c. search needs)
+    (λ c κs. search needs)
+    (λ c κs. search needs)
     returns)

@@ -31,4 +31,6 @@ returns c =
     c .before .loop .inv .3 ∙ ap (secondsRight (a .o) (lent (a .rows .now) (a .seconds .now))) (omega arith)
 
 pub seconds-right-spec : {M : Type 1} → statement M
-seconds-right-spec = tie.close (tie.spec Inv-loop μ-loop loop-holds (λ c κs. search needs) (λ c. search needs) (λ c. search needs) loop-again returns)
+seconds-right-spec =
+    tie.close
+    (tie.spec Inv-loop μ-loop loop-holds (λ c κs. search needs) (λ c. search needs) (λ c. search needs) loop-again returns)
