@@ -24,7 +24,8 @@ loop-again c = (search needs, search needs, filled-more _ (search needs) refl (c
 returns : tie.Need-returns Inv-loop μ-loop
 returns c =
     let block = c .before .before .args .t2 in
-    all-filled (omega arith) (search needs) (c .before .loop .inv .2) ∙ sym (tab-ext (λ (k : ℕ). getD block k 0) width 0 block (search needs) (λ k h. refl))
+    all-filled (omega arith) (search needs) (c .before .loop .inv .2)
+    ∙ sym (tab-ext (λ (k : ℕ). getD block k 0) width 0 block (search needs) (λ k h. refl))
 
 pub copy-block-spec : {M : Type 1} → statement M
 copy-block-spec =

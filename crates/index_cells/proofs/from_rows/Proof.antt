@@ -25,12 +25,14 @@ loop-again c =
       search needs,
       search needs,
       c .with-row .ensures
-          ∙ (λ t. cond (rowWithin (a .rows .now) (l .i) (a .second)) (merged (l .inv .2 t) (blockAt (a .rows .now) (l .i))) (l .inv .2 t))
+          ∙ (λ t. cond (rowWithin (a .rows .now) (l .i) (a .second)) (merged (l .inv .2 t) (blockAt (a .rows .now) (l .i)))
+          (l .inv .2 t))
           ∙ row-passed (a .rows .now) (a .second) (l .i),
     )
 
 returns : tie.Need-returns Inv-loop μ-loop
-returns c = let a = c .before .before .before .args in c .before .loop .inv .2 ∙ ap (secondFrom (a .rows .now) (a .second)) (omega arith)
+returns c =
+    let a = c .before .before .before .args in c .before .loop .inv .2 ∙ ap (secondFrom (a .rows .now) (a .second)) (omega arith)
 
 pub from-rows-spec : {M : Type 1} → statement M
 from-rows-spec =

@@ -10,7 +10,8 @@ use Rattle.index_cells.proofs.merged_cells.Statement.{statement}
 use Rattle.index_cells.proofs.merged_cells.Tie as tie
 
 abbrev Inv-loop : tie.InvT-loop
-Inv-loop row cells₀ j₀ cells j = (j ≤ width) × (length cells₀ ≡ width) × Filled cells₀ (λ k. merge k (getD cells₀ k 0) (getD row k 0)) 0 j cells
+Inv-loop row cells₀ j₀ cells j =
+    (j ≤ width) × (length cells₀ ≡ width) × Filled cells₀ (λ k. merge k (getD cells₀ k 0) (getD row k 0)) 0 j cells
 
 abbrev μ-loop : tie.MeasureT-loop
 μ-loop row cells₀ j₀ cells j = width - j
@@ -20,8 +21,15 @@ loop-holds c = (search needs, search needs, filled-none _ _ _)
 
 loop-again : tie.Need-loop-again Inv-loop μ-loop
 loop-again c =
-    let l = c .before .before .loop in
-    (search needs, search needs, filled-more (c .merge-cell .result) (search needs) (c .merge-cell .ensures ∙ ap (λ (x : ℕ). merge (l .j) x (getD (c .before .before .before .args .t2) (l .j) 0)) (l .inv .2 .high (l .j) (omega arith))) (l .inv .2))
+    let l = c .before .before .loop in (
+      search needs,
+      search needs,
+      filled-more (c .merge-cell .result) (search needs)
+          (c .merge-cell .ensures
+          ∙ ap (λ (x : ℕ). merge (l .j) x (getD (c .before .before .before .args .t2) (l .j) 0))
+          (l .inv .2 .high (l .j) (omega arith)))
+          (l .inv .2),
+    )
 
 returns : tie.Need-returns Inv-loop μ-loop
 unfolding merged

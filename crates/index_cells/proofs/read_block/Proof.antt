@@ -11,7 +11,9 @@ use Rattle.index_cells.proofs.read_block.Statement.{statement}
 use Rattle.index_cells.proofs.read_block.Tie as tie
 
 abbrev Inv-loop : tie.InvT-loop
-Inv-loop cells i block₀ start j₀ block j = (j ≤ width) × (start ≡ width * i) × (width * i + width ≤ length cells) × (length block₀ ≡ width) × Filled block₀ (cell cells i) 0 j block
+Inv-loop cells i block₀ start j₀ block j =
+    (j ≤ width) × (start ≡ width * i) × (width * i + width ≤ length cells) × (length block₀ ≡ width)
+    × Filled block₀ (cell cells i) 0 j block
 
 abbrev μ-loop : tie.MeasureT-loop
 μ-loop cells i block₀ start j₀ block j = width - j
@@ -20,12 +22,14 @@ loop-holds : tie.Need-loop-holds Inv-loop μ-loop
 loop-holds c = (search needs, refl, search needs, search needs, filled-none _ _ _)
 
 loop-again : tie.Need-loop-again Inv-loop μ-loop
-loop-again c = (search needs, refl, search needs, search needs, filled-more _ (search needs) refl (c .before .before .loop .inv .4))
+loop-again c =
+    (search needs, refl, search needs, search needs, filled-more _ (search needs) refl (c .before .before .loop .inv .4))
 
 returns : tie.Need-returns Inv-loop μ-loop
 returns c =
     let a = c .before .before .args in
-    all-filled (omega arith) (search needs) (c .before .loop .inv .4) ∙ sym (block-cells (a .cells .now) (a .i) (search needs) (cell (a .cells .now) (a .i)) (λ j h. refl))
+    all-filled (omega arith) (search needs) (c .before .loop .inv .4)
+    ∙ sym (block-cells (a .cells .now) (a .i) (search needs) (cell (a .cells .now) (a .i)) (λ j h. refl))
 
 pub read-block-spec : {M : Type 1} → statement M
 read-block-spec =

@@ -14,8 +14,10 @@ returns : tie.Need-returns
 returns c =
     let a = c .before .before .before .before .before .before .before .before in
     let t = a .args .t1 in
-    (λ i. c .before .before .before .means-of .ensures i ∷ c .before .before .means-of2 .ensures i ∷ c .before .means-of3 .ensures i ∷ c .means-of4 .ensures i ∷ [])
-    ∙ ap (λ (l : List Total). eachMeans l (a .args .count)) (sym (tab-ext (λ (i : ℕ). getD t i noTotal) 4 noTotal t (a .good .0 .1 .0 .1) (λ i h. refl)))
+    (λ i. c .before .before .before .means-of .ensures i ∷ c .before .before .means-of2 .ensures i
+    ∷ c .before .means-of3 .ensures i ∷ c .means-of4 .ensures i ∷ [])
+    ∙ ap (λ (l : List Total). eachMeans l (a .args .count))
+    (sym (tab-ext (λ (i : ℕ). getD t i noTotal) 4 noTotal t (a .good .0 .1 .0 .1) (λ i h. refl)))
 
 pub each-means-spec : {M : Type 1} → statement M
 each-means-spec =

@@ -19,7 +19,8 @@ returns : tie.Need-returns
 returns c = c .no-means .ensures ∙ sym (means-none _ _ (c .before .if1 .taken))
 
 int-to-float-sum : tie.Need-int-to-float-sum
-int-to-float-sum c = subst (λ (z : ℤ). T (inFloat binary64 z)) (sym (sum-back c)) (cast-exact _ (c .before .before .before .pre .0 .sums))
+int-to-float-sum c =
+    subst (λ (z : ℤ). T (inFloat binary64 z)) (sym (sum-back c)) (cast-exact _ (c .before .before .before .pre .0 .sums))
 
 int-to-float-squares : tie.Need-int-to-float-squares
 int-to-float-squares c = cast-exact (pos _) (c .before .before .before .before .pre .0 .squared)

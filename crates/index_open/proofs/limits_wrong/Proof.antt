@@ -12,7 +12,8 @@ returns c =
     let p = c .before .before .before .before in
     let o = p .before .args .o in
     ap
-    (λ (past : Bool). eqb (o .«highest_number») 0 || ltb highestLimit (o .«highest_number») || eqb (o .«second_count») 0 || ltb daySeconds (o .«second_count») || past)
+    (λ (past : Bool). eqb (o .«highest_number») 0 || ltb highestLimit (o .«highest_number») || eqb (o .«second_count») 0
+    || ltb daySeconds (o .«second_count») || past)
     (p .past-day .ensures)
 
 pub limits-wrong-spec : {M : Type 1} → statement M

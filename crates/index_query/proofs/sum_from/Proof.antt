@@ -7,8 +7,11 @@ sub-result : tie.Need-sub-result
 sub-result c = sum-fits (c .args .x) (c .args .count) (search needs) (search needs)
 
 returns : tie.Need-returns
-returns c =
-    (sum-read (c .args .x) (c .args .count) (search needs) (search needs), sum-exact (c .args .x) (c .args .count) (search needs) (search needs))
+returns c = (
+  sum-read (c .args .x) (c .args .count) (search needs) (search needs),
+  sum-exact (c .args .x) (c .args .count) (search needs)
+      (search needs),
+)
 
 pub sum-from-spec : {M : Type 1} → statement M
 sum-from-spec = tie.close (tie.spec (λ c. search needs) (λ c. search needs) (λ c. search needs) sub-result returns)
