@@ -71,7 +71,12 @@ fn print_puts(o: Opening, rows: &mut [u32; 3 * WIDTH], seconds: &mut [u32; WIDTH
     );
 }
 
-fn put_again(o: Opening, bytes: &[u8; 780], rows: &mut [u32; 3 * WIDTH], seconds: &mut [u32; WIDTH]) -> u8 {
+fn put_again(
+    o: Opening,
+    bytes: &[u8; 780],
+    rows: &mut [u32; 3 * WIDTH],
+    seconds: &mut [u32; WIDTH],
+) -> u8 {
     index_update::insert(o, bytes, rows, seconds)
 }
 
