@@ -1,7 +1,7 @@
 -- The laws of binary coded decimal, over the number of digits: each direction undoes the other. Assumes nothing.
 use Prim.Native.Nat.{ℕ, zero, suc, _+_, _-_, _*_, _/_, _%_, _^_, _≤_, _<_}
-use mathlib.Core.Path.{_≡_, ap, sym, _∙_, subst}
-use mathlib.Core.Bool.{true, _&&_}
+use mathlib.Core.Path.{_≡_, refl, ap, sym, _∙_, subst}
+use mathlib.Core.Bool.{_&&_}
 use native.Mathlib.Nat.{pow-suc, pow-le-pow-right, div-one}
 use native.Mathlib.Omega.{arith}
 use lib.Pow.{shr-shr}
@@ -64,50 +64,37 @@ coded-decimal (suc n) v h t =
     let f : coded n ((decimalValue n (v / 16) * 10 + v % 16) / 10) ≡ coded n (decimalValue n (v / 16)) = ap (coded n) q in
     omega (arith, e, f, r)
 
--- ## the steps of the loops, which go down from the most significant digit
+-- ## a loop over the digits of a code, from the most significant on
 
--- the code above digit l, from the code above the digit after it
-above : (c l : ℕ) → 0 < l → c / 2 ^ (4 * (l - 1)) / 16 ≡ c / 2 ^ (4 * l)
-above c l h = shr-shr c (4 * (l - 1)) 4 ∙ ap (λ (k : ℕ). c / 2 ^ k) (omega arith)
+-- F n c is what the last n digits of c make, `step` by `step`
+module _ {A : Type 0} (F : ℕ → ℕ → A) (step : A → ℕ → A) (more : (n c : ℕ) → F (suc n) c ≡ step (F n (c / 16)) (c % 16)) where
+  -- before the first digit
+  pub digits-none : (n l c : ℕ) → l ≡ n → F 0 c ≡ F (n - l) c
+  digits-none n l c e = let z : n - l ≡ 0 = omega arith in sym (ap (λ (m : ℕ). F m c) z)
 
-whole : (c : ℕ) → c / 2 ^ (4 * 0) ≡ c
-whole c = div-one c
-
-module _ (n c l : ℕ) (h : 0 < l) (q : l ≤ n) where
-  next : n - (l - 1) ≡ suc (n - l)
-  next = omega arith
-
-  pub decimal-down : decimalValue (n - l) (c / 2 ^ (4 * l)) * 10 + c / 2 ^ (4 * (l - 1)) % 16 ≡ decimalValue (n - (l - 1)) (c / 2 ^ (4 * (l - 1)))
-  unfolding decimalValue
-  decimal-down =
+  -- one digit more: l are left, and then one less
+  pub digits-more : (n l c : ℕ) → 0 < l → l ≤ n
+      → step (F (n - l) (c / 2 ^ (4 * l))) (c / 2 ^ (4 * (l - 1)) % 16) ≡ F (n - (l - 1)) (c / 2 ^ (4 * (l - 1)))
+  digits-more n l c h q =
       let x : ℕ = c / 2 ^ (4 * (l - 1)) in
-      ap (λ (z : ℕ). decimalValue (n - l) z * 10 + x % 16) (sym (above c l h)) ∙ ap (λ (m : ℕ). decimalValue m x) (sym next)
+      let above : x / 16 ≡ c / 2 ^ (4 * l) = shr-shr c (4 * (l - 1)) 4 ∙ ap (λ (k : ℕ). c / 2 ^ k) (omega arith) in
+      let next : suc (n - l) ≡ n - (l - 1) = omega arith in
+      ap (λ (z : ℕ). step (F (n - l) z) (x % 16)) (sym above) ∙ sym (more (n - l) x) ∙ ap (λ (m : ℕ). F m x) next
 
-  pub digits-down : digits (n - l) (c / 2 ^ (4 * l)) && leb (c / 2 ^ (4 * (l - 1)) % 16) 9 ≡ digits (n - (l - 1)) (c / 2 ^ (4 * (l - 1)))
-  unfolding digits
-  digits-down =
-      let x : ℕ = c / 2 ^ (4 * (l - 1)) in
-      ap (λ (z : ℕ). digits (n - l) z && leb (x % 16) 9) (sym (above c l h)) ∙ ap (λ (m : ℕ). digits m x) (sym next)
+  -- after the last
+  pub digits-whole : (n l c : ℕ) → l ≡ 0 → F (n - l) (c / 2 ^ (4 * l)) ≡ F n c
+  digits-whole n l c e =
+      let m : n - l ≡ n = omega arith in
+      ap (λ (k : ℕ). F k (c / 2 ^ (4 * l))) m ∙ ap (λ (k : ℕ). F n (c / 2 ^ (4 * k))) e ∙ ap (F n) (div-one c)
 
--- before the first digit
-pub decimal-none : (n l c : ℕ) → l ≡ n → 0 ≡ decimalValue (n - l) c
+-- the steps of the two loops, and of the recursion
+pub decimal-step : (n c : ℕ) → decimalValue (suc n) c ≡ decimalValue n (c / 16) * 10 + c % 16
 unfolding decimalValue
-decimal-none n l c e = let z : n - l ≡ 0 = omega arith in sym (ap (λ (m : ℕ). decimalValue m c) z)
+decimal-step n c = refl
 
-pub digits-none : (n l c : ℕ) → l ≡ n → true ≡ digits (n - l) c
+pub good-step : (n c : ℕ) → digits (suc n) c ≡ digits n (c / 16) && leb (c % 16) 9
 unfolding digits
-digits-none n l c e = let z : n - l ≡ 0 = omega arith in sym (ap (λ (m : ℕ). digits m c) z)
-
--- after the last
-pub decimal-whole : (n l c : ℕ) → l ≡ 0 → decimalValue (n - l) (c / 2 ^ (4 * l)) ≡ decimalValue n c
-decimal-whole n l c e = let m : n - l ≡ n = omega arith in
-    ap (λ (k : ℕ). decimalValue k (c / 2 ^ (4 * l))) m ∙ ap (λ (k : ℕ). decimalValue n (c / 2 ^ (4 * k))) e ∙ ap (decimalValue n) (whole c)
-
-pub digits-whole : (n l c : ℕ) → l ≡ 0 → digits (n - l) (c / 2 ^ (4 * l)) ≡ digits n c
-digits-whole n l c e = let m : n - l ≡ n = omega arith in
-    ap (λ (k : ℕ). digits k (c / 2 ^ (4 * l))) m ∙ ap (λ (k : ℕ). digits n (c / 2 ^ (4 * k))) e ∙ ap (digits n) (whole c)
-
--- ## the steps of the recursion
+good-step n c = refl
 
 pub coded-none : (n x : ℕ) → n ≡ 0 → 0 ≡ coded n x
 unfolding coded

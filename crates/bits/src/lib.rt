@@ -1,4 +1,4 @@
-// Bit fields of a run of bytes, read and written, and binary coded decimal. 01: "The record", words and bits.
+// Bit fields of a run of bytes, read and written, and binary coded decimal. FORMAT, "The record".
 // Bits past the last byte read as 0 and are not written, so no caller has to know the length first.
 ghost use mathlib.Core.Path.{_≡_};
 ghost use Prim.Native.Nat.{_+_, _-_, _*_, _/_, _%_, _^_, _≤_, _<_, min};
@@ -76,14 +76,6 @@ pub fn read_bits(bytes: &[u8], start: usize, width: usize) -> u64
     cut_field(bytes, start, lists::lesser(width, WIDEST))
 }
 
-// Byte k of the n that make up x, high byte first.
-fn byte_of(x: u64, n: usize, k: usize) -> u8
-    requires { ⌜ (k < n) × (n ≤ 8) ⌝ }
-    ensures { λ r. ⌜ r ≡ x / 2 ^ (8 * (n - 1 - k)) % 256 ⌝ }
-{
-    narrow(x / two_to(8 * (n - 1 - k)))
-}
-
 // Byte i, if there is one, becomes `byte`.
 fn set_byte(bytes: &mut [u8], i: usize, byte: u8)
     ensures { λ _. ⌜ now (bytes .exit) ≡ set (now (bytes .entry)) i byte ⌝ }
@@ -93,15 +85,17 @@ fn set_byte(bytes: &mut [u8], i: usize, byte: u8)
     }
 }
 
-// The n bytes from `from` on become those that make up x; what lies past the end is dropped.
+// The n bytes from `from` on become those that make up x, the last of them first; what lies past the end is dropped.
 fn store(bytes: &mut [u8], from: usize, n: usize, x: u64)
     requires { ⌜ (from < 2 ^ 61) × (n ≤ 8) ⌝ }
-    ensures { λ _. ⌜ Stored from n x n (now (bytes .entry)) (now (bytes .exit)) ⌝ }
+    ensures { λ _. ⌜ Stored from n x 0 (now (bytes .entry)) (now (bytes .exit)) ⌝ }
 {
-    let mut k: usize = 0;
-    while k < n {
-        set_byte(bytes, from + k, byte_of(x, n, k));
-        k += 1;
+    let mut rest = x;
+    let mut k = n;
+    while 0 < k {
+        k -= 1;
+        set_byte(bytes, from + k, narrow(rest));
+        rest = rest / 256;
     }
 }
 
@@ -112,8 +106,7 @@ fn mixed(old: u64, after: usize, width: usize, value: u64) -> u64
 {
     let p = two_to(width);
     let t = two_to(after);
-    let high = old / two_to(after + width);
-    (high * p + value % p) * t + old % t
+    old - old / t % p * t + value % p * t
 }
 
 // The field of `width` bits, at most 56, from bit `start` on becomes the lowest bits of `value`; every other bit stays.

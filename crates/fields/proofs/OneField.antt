@@ -16,25 +16,21 @@ use Rattle.bits.specs.Decimal.{decimalValue, digits, coded}
 use Rattle.bits.proofs.Bits.{getBits-lt, get-set, get-other, set-get, length-setBits, bit-kept}
 use Rattle.bits.proofs.Decimal.{coded-lt, coded-digits, decimal-coded, coded-decimal, decimal-lt}
 use Rattle.fields.specs.declared.Field.{Field}
-use Rattle.fields.specs.Field.{start, width, isDecimal, digitCount, encoded, decoded, valueOf, withValue, digitsGood, decimalFits, binaryFits, Readable, readable}
+use Rattle.fields.specs.Field.{wordOf, bitOf, start, width, isDecimal, digitCount, encoded, decoded, valueOf, withValue, digitsGood, decimalFits, binaryFits, Readable, readable, wholeDigits}
 
 -- the test gives the facts
-module _ (f : Field) (t : T (readable f)) where
-  rest : T ((leb 1 (f .1) && leb (f .1) 16) && (leb (width f) 56 && (not (f .3) || eqb (width f % 4) 0)))
-  rest = right (leb 1 (f .0) && leb (f .0) 4000) _ t
-
-  pub is-readable : Readable f
-  is-readable =
-      record {
-        first = leb→le 1 (f .0) (left (leb 1 (f .0)) _ (left (leb 1 (f .0) && leb (f .0) 4000) _ t));
-        last = leb→le (f .0) 4000 (right (leb 1 (f .0)) _ (left (leb 1 (f .0) && leb (f .0) 4000) _ t));
-        high = leb→le 1 (f .1) (left (leb 1 (f .1)) _ (left (leb 1 (f .1) && leb (f .1) 16) _ rest));
-        low = leb→le (f .1) 16 (right (leb 1 (f .1)) _ (left (leb 1 (f .1) && leb (f .1) 16) _ rest));
-        narrow = leb→le (width f) 56 (left (leb (width f) 56) _ (right (leb 1 (f .1) && leb (f .1) 16) _ rest));
-      }
-
-  whole-digits : T (not (f .3) || eqb (width f % 4) 0)
-  whole-digits = right (leb (width f) 56) _ (right (leb 1 (f .1) && leb (f .1) 16) _ rest)
+pub is-readable : (f : Field) → T (readable f) → Readable f
+is-readable f t =
+    let words : T (leb 1 (wordOf f) && leb (wordOf f) 4000) = left (leb 1 (wordOf f) && leb (wordOf f) 4000) _ t in
+    let rest : T ((leb 1 (bitOf f) && leb (bitOf f) 16) && leb (width f) 56) = right (leb 1 (wordOf f) && leb (wordOf f) 4000) _ t in
+    let bits : T (leb 1 (bitOf f) && leb (bitOf f) 16) = left (leb 1 (bitOf f) && leb (bitOf f) 16) _ rest in
+    record {
+      first = leb→le 1 (wordOf f) (left (leb 1 (wordOf f)) _ words);
+      last = leb→le (wordOf f) 4000 (right (leb 1 (wordOf f)) _ words);
+      high = leb→le 1 (bitOf f) (left (leb 1 (bitOf f)) _ bits);
+      low = leb→le (bitOf f) 16 (right (leb 1 (bitOf f)) _ bits);
+      narrow = leb→le (width f) 56 (right (leb 1 (bitOf f) && leb (bitOf f) 16) _ rest);
+    }
 
 -- ## codes, over the kind and the width of a field
 
@@ -76,11 +72,11 @@ unfolding withValue
 length-with f v b = length-setBits (start f) (width f) (encoded f v) b
 
 -- a value that was put is read
-pub value-with : (f : Field) (v : ℕ) (b : List ℕ) → T (readable f) → start f + width f ≤ 8 * length b
+pub value-with : (f : Field) (v : ℕ) (b : List ℕ) → T (wholeDigits f) → start f + width f ≤ 8 * length b
     → T (decimalFits f v) → T (binaryFits f v) → valueOf f (withValue f v b) ≡ v
 unfolding valueOf withValue
 value-with f v b t inside d n =
-    let p = code-value (f .3) (width f) v (whole-digits f t) d n in
+    let p = code-value (isDecimal f) (width f) v t d n in
     ap (decoded f) (get-set (start f) (width f) (encoded f v) b inside (p .0)) ∙ p .1
 
 -- another field is as it was
@@ -90,12 +86,12 @@ unfolding valueOf withValue
 value-other f g v b o = ap (decoded f) (get-other (start g) (width g) (encoded g v) (start f) (width f) b o)
 
 -- what is read and put back changes nothing
-pub with-value : (f : Field) (b : List ℕ) → T (readable f) → ((k : ℕ) → getD b k 0 < 256) → T (digitsGood f b)
+pub with-value : (f : Field) (b : List ℕ) → T (wholeDigits f) → ((k : ℕ) → getD b k 0 < 256) → T (digitsGood f b)
     → withValue f (valueOf f b) b ≡ b
 unfolding valueOf withValue digitsGood
 with-value f b t h g =
     ap (λ (x : ℕ). setBits (start f) (width f) x b)
-    (value-code (f .3) (width f) (getBits (start f) (width f) b) (whole-digits f t) (getBits-lt (start f) (width f) b) g)
+    (value-code (isDecimal f) (width f) (getBits (start f) (width f) b) t (getBits-lt (start f) (width f) b) g)
     ∙ set-get (start f) (width f) b h
 
 -- what a binary field holds has no more bits than the field
@@ -108,27 +104,27 @@ value-lt f b e =
 -- what is read from good digits fits
 pub read-fits : (f : Field) (b : List ℕ) → T (digitsGood f b) → T (decimalFits f (valueOf f b)) × T (binaryFits f (valueOf f b))
 unfolding valueOf digitsGood
-read-fits f b g = value-fits (f .3) (width f) (getBits (start f) (width f) b) (getBits-lt (start f) (width f) b) g
+read-fits f b g = value-fits (isDecimal f) (width f) (getBits (start f) (width f) b) (getBits-lt (start f) (width f) b) g
 
 -- digits that were put are good
 code-digits : (k : Bool) (n v : ℕ) → T (not k || digits n (cond k (coded n v) v))
 code-digits true n v = coded-digits n v
 code-digits false n v = tt
 
-pub digits-with : (f : Field) (v : ℕ) (b : List ℕ) → T (readable f) → start f + width f ≤ 8 * length b
+pub digits-with : (f : Field) (v : ℕ) (b : List ℕ) → T (wholeDigits f) → start f + width f ≤ 8 * length b
     → T (decimalFits f v) → T (binaryFits f v) → T (digitsGood f (withValue f v b))
 unfolding withValue digitsGood
 digits-with f v b t inside d n =
-    let p = code-value (f .3) (width f) v (whole-digits f t) d n in
-    subst (λ (x : ℕ). T (not (f .3) || digits (digitCount f) x))
+    let p = code-value (isDecimal f) (width f) v t d n in
+    subst (λ (x : ℕ). T (not (isDecimal f) || digits (digitCount f) x))
     (sym (get-set (start f) (width f) (encoded f v) b inside (p .0)))
-    (code-digits (f .3) (digitCount f) v)
+    (code-digits (isDecimal f) (digitCount f) v)
 
 pub digits-other : (f g : Field) (v : ℕ) (b : List ℕ) → (start f + width f ≤ start g) ⊎ (start g + width g ≤ start f)
     → digitsGood f (withValue g v b) ≡ digitsGood f b
 unfolding withValue digitsGood
 digits-other f g v b o =
-    ap (λ (x : ℕ). not (f .3) || digits (digitCount f) x) (get-other (start g) (width g) (encoded g v) (start f) (width f) b o)
+    ap (λ (x : ℕ). not (isDecimal f) || digits (digitCount f) x) (get-other (start g) (width g) (encoded g v) (start f) (width f) b o)
 
 -- a bit outside the field is as it was
 pub bit-other : (f : Field) (v : ℕ) (b : List ℕ) (i : ℕ) → (i < start f) ⊎ (start f + width f ≤ i) → bitAt (withValue f v b) i ≡ bitAt b i

@@ -14,7 +14,7 @@ use native.Mathlib.Numerals.{add-one}
 use Rattle.lists.proofs.Truth.{left, right, both, either, holds, and-true, and-assoc}
 use Rattle.bits.specs.Bits.{bitAt}
 use Rattle.fields.specs.declared.Field.{Field}
-use Rattle.fields.specs.Field.{none, start, width, valueOf, withValue, digitsGood, decimalFits, binaryFits, readable}
+use Rattle.fields.specs.Field.{none, start, width, valueOf, withValue, digitsGood, decimalFits, binaryFits, readable, wholeDigits}
 use Rattle.fields.specs.Table.{readAll, writeAll, allDigitsGood, allFit, apart, allApart, sound, unnamed}
 use Rattle.fields.proofs.OneField.{length-with, value-with, value-other, with-value, read-fits, digits-with, digits-other, bit-other}
 
@@ -22,10 +22,13 @@ use Rattle.fields.proofs.OneField.{length-with, value-with, value-other
 
 module _ (n : ℕ) (f : Field) (fs : List Field) (t : T (sound n (f ∷ fs))) where
   within : T (leb (start f + width f) n && (allApart f fs && sound n fs))
-  within = right (readable f) _ t
+  within = right (readable f && wholeDigits f) _ t
 
   pub sound-readable : T (readable f)
-  sound-readable = left (readable f) _ t
+  sound-readable = left (readable f) (wholeDigits f) (left (readable f && wholeDigits f) _ t)
+
+  pub sound-digits : T (wholeDigits f)
+  sound-digits = right (readable f) (wholeDigits f) (left (readable f && wholeDigits f) _ t)
 
   pub sound-inside : start f + width f ≤ n
   sound-inside = leb→le (start f + width f) n (left (leb (start f + width f) n) _ within)
@@ -52,7 +55,7 @@ pub sound-more : (m n : ℕ) (fs : List Field) → m ≤ n → T (sound m fs) �
 sound-more m n [] h t = tt
 sound-more m n (f ∷ fs) h t =
     let e : start f + width f ≤ m = sound-inside m f fs t in
-    both (readable f) _ (sound-readable m f fs t)
+    both (readable f && wholeDigits f) _ (left (readable f && wholeDigits f) _ t)
     (both (leb (start f + width f) n) _ (le→leb (start f + width f) n (omega arith))
     (both (allApart f fs) (sound n fs) (sound-apart m f fs t) (sound-more m n fs h (sound-rest m f fs t))))
 
@@ -106,7 +109,7 @@ read-write (f ∷ fs) (v ∷ vs) b t d n =
     let c : List ℕ = withValue f v b in
     let head : valueOf f (writeAll fs vs c) ≡ v =
     value-kept f fs vs c (sound-apart (8 * length b) f fs t)
-    ∙ value-with f v b (sound-readable (8 * length b) f fs t) (sound-inside (8 * length b) f fs t)
+    ∙ value-with f v b (sound-digits (8 * length b) f fs t) (sound-inside (8 * length b) f fs t)
     (left (decimalFits f v) (allFit decimalFits fs vs) d) (left (binaryFits f v) (allFit binaryFits fs vs) n) in
     let tail : readAll fs (writeAll fs vs c) ≡ vs =
     read-write fs vs c (still-sound f v b fs (sound-rest (8 * length b) f fs t))
@@ -123,7 +126,7 @@ digits-write (f ∷ fs) (v ∷ vs) b t d n =
     let c : List ℕ = withValue f v b in
     both (digitsGood f (writeAll fs vs c)) (allDigitsGood fs (writeAll fs vs c))
     (subst T (sym (digits-kept f fs vs c (sound-apart (8 * length b) f fs t)))
-    (digits-with f v b (sound-readable (8 * length b) f fs t) (sound-inside (8 * length b) f fs t)
+    (digits-with f v b (sound-digits (8 * length b) f fs t) (sound-inside (8 * length b) f fs t)
     (left (decimalFits f v) (allFit decimalFits fs vs) d) (left (binaryFits f v) (allFit binaryFits fs vs) n)))
     (digits-write fs vs c (still-sound f v b fs (sound-rest (8 * length b) f fs t))
     (right (decimalFits f v) (allFit decimalFits fs vs) d) (right (binaryFits f v) (allFit binaryFits fs vs) n))
@@ -133,7 +136,7 @@ pub write-read : (n : ℕ) (fs : List Field) (b : List ℕ) → T (sound n fs) �
     → writeAll fs (readAll fs b) b ≡ b
 write-read n [] b t h g = refl
 write-read n (f ∷ fs) b t h g =
-    ap (writeAll fs (readAll fs b)) (with-value f b (sound-readable n f fs t) h (left (digitsGood f b) (allDigitsGood fs b) g))
+    ap (writeAll fs (readAll fs b)) (with-value f b (sound-digits n f fs t) h (left (digitsGood f b) (allDigitsGood fs b) g))
     ∙ write-read n fs b (sound-rest n f fs t) h (right (digitsGood f b) (allDigitsGood fs b) g)
 
 -- what is read from good digits fits

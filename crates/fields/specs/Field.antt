@@ -1,5 +1,5 @@
 -- One field of a header, in the paper's own terms: words and bits counted from 1, bit 1 the most significant.
--- 01: the table of words under "The record".
+-- FORMAT, "The record".
 use Prim.Native.Nat.{ℕ, _+_, _-_, _*_, _/_, _%_, _^_, _≤_}
 use mathlib.Core.Bool.{Bool, true, false, cond, _&&_, _||_, not}
 use mathlib.Core.List.{List}
@@ -23,27 +23,33 @@ infixl 20 word_
 abbrev pub word_ : ℕ → Field
 word m = word m bits 1 to 16
 
--- the same bits, as decimal digits of four bits each
-abbrev pub bcd : Field → Field
-bcd f = record { 0 = f .0; 1 = f .1; 2 = f .2; 3 = true }
-
 -- no field: what stands past the end of a table
 abbrev pub none : Field
 none = record { 0 = 0; 1 = 0; 2 = 0; 3 = false }
 
--- the first bit, counted from 0 through the whole header, and the number of bits
-abbrev pub start : Field → ℕ
-start f = 16 * (f .0 - 1) + (f .1 - 1)
+-- its word and first bit, counted from 1, its number of bits, and whether it holds decimal digits
+abbrev pub wordOf : Field → ℕ
+wordOf f = f .0
+
+abbrev pub bitOf : Field → ℕ
+bitOf f = f .1
 
 abbrev pub width : Field → ℕ
 width f = f .2
 
--- whether it holds decimal digits, and how many
 abbrev pub isDecimal : Field → Bool
 isDecimal f = f .3
 
+-- the same bits, as decimal digits of four bits each
+abbrev pub bcd : Field → Field
+bcd f = record { 0 = wordOf f; 1 = bitOf f; 2 = width f; 3 = true }
+
+-- the first bit, counted from 0 through the whole header, and the number of decimal digits
+abbrev pub start : Field → ℕ
+start f = 16 * (wordOf f - 1) + (bitOf f - 1)
+
 abbrev pub digitCount : Field → ℕ
-digitCount f = f .2 / 4
+digitCount f = width f / 4
 
 -- the value that a code, a field's bits as a number, stands for; and the code of a value
 abbrev pub decoded : Field → ℕ → ℕ
@@ -73,18 +79,21 @@ binaryFits f v = isDecimal f || ltb v (2 ^ width f)
 
 -- a field that the code can read: words 1 to 4,000, at most 56 bits
 pub record Readable (f : Field) : Type 0 where
-  pub first : 1 ≤ f .0
-  pub last : f .0 ≤ 4000
-  pub high : 1 ≤ f .1
-  pub low : f .1 ≤ 16
+  pub first : 1 ≤ wordOf f
+  pub last : wordOf f ≤ 4000
+  pub high : 1 ≤ bitOf f
+  pub low : bitOf f ≤ 16
   pub narrow : width f ≤ 56
 
--- the same as a test, and that a decimal field has whole digits
+-- the same as a test
 abbrev pub readable : Field → Bool
 readable f =
-    (leb 1 (f .0) && leb (f .0) 4000)
-    && ((leb 1 (f .1) && leb (f .1) 16)
-    && (leb (width f) 56 && (not (isDecimal f) || eqb (width f % 4) 0)))
+    (leb 1 (wordOf f) && leb (wordOf f) 4000)
+    && ((leb 1 (bitOf f) && leb (bitOf f) 16) && leb (width f) 56)
+
+-- a decimal field has whole digits
+abbrev pub wholeDigits : Field → Bool
+wholeDigits f = not (isDecimal f) || eqb (width f % 4) 0
 
 -- what the code reads, writes and judges: of a field that is not readable 0, nothing, and no digit
 abbrev pub readValue : Field → List ℕ → ℕ

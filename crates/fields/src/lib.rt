@@ -1,7 +1,7 @@
-// One field of a header, read and written as its row of the format's table says. 01: the table of words under "The record".
+// One field of a header, read and written as its row of the format's table says. FORMAT, "The record".
 // A field that no format has, such as one of word 0 or of 60 bits, reads as 0 and is not written.
 ghost use mathlib.Core.Path.{_≡_};
-ghost use Rattle.fields.specs.Field.{start, valueOf, withValue, digitsGood, binaryFits, Readable, readable, readValue, writeValue, goodDigits};
+ghost use Rattle.fields.specs.Field.{start, encoded, valueOf, withValue, digitsGood, binaryFits, Readable, readable, readValue, writeValue, goodDigits};
 
 // A field: its word and first bit, both counted from 1, its width in bits, and whether it holds decimal digits.
 pub struct Field(pub usize, pub usize, pub usize, pub bool);
@@ -11,19 +11,16 @@ fn first_bit(f: Field) -> usize
     requires { ⌜ Readable f ⌝ }
     ensures { λ r. ⌜ r ≡ start f ⌝ }
 {
-    let word = f.0;
-    let bit = f.1;
+    let Field(word, bit, _, _) = f;
     16 * (word - 1) + (bit - 1)
 }
 
-// Whether the field is one that can be read: words 1 to 4,000, bits 1 to 16, at most 56 bits, whole digits.
+// Whether the field is one that can be read: words 1 to 4,000, bits 1 to 16, at most 56 bits.
 fn is_readable(f: Field) -> bool
     ensures { λ r. ⌜ r ≡ readable f ⌝ }
 {
-    let word = (1 <= f.0) & (f.0 <= 4000);
-    let bit = (1 <= f.1) & (f.1 <= 16);
-    let width = (f.2 <= 56) & (!f.3 | (f.2 % 4 == 0));
-    word & (bit & width)
+    let Field(word, bit, width, _) = f;
+    ((1 <= word) & (word <= 4000)) & (((1 <= bit) & (bit <= 16)) & (width <= 56))
 }
 
 // What a readable field holds.
@@ -31,9 +28,9 @@ fn value_of(bytes: &[u8], f: Field) -> u64
     requires { ⌜ Readable f ⌝ }
     ensures { λ r. ⌜ r ≡ valueOf f (now (bytes .entry)) ⌝ }
 {
-    let width = f.2;
+    let Field(_, _, width, decimal) = f;
     let code = bits::read_bits(bytes, first_bit(f), width);
-    if f.3 {
+    if decimal {
         return bits::decimal_value(width / 4, code);
     }
     code
@@ -54,8 +51,8 @@ fn digits_of(bytes: &[u8], f: Field) -> bool
     requires { ⌜ Readable f ⌝ }
     ensures { λ r. ⌜ r ≡ digitsGood f (now (bytes .entry)) ⌝ }
 {
-    let width = f.2;
-    if f.3 {
+    let Field(_, _, width, decimal) = f;
+    if decimal {
         let code = bits::read_bits(bytes, first_bit(f), width);
         return bits::decimal_digits(width / 4, code);
     }
@@ -72,19 +69,25 @@ pub fn good_digits(bytes: &[u8], f: Field) -> bool
     true
 }
 
+// The code of the value: its digits, if the field holds digits.
+fn code_of(f: Field, value: u64) -> u64
+    requires { ⌜ Readable f ⌝ }
+    ensures { λ r. ⌜ r ≡ encoded f value ⌝ }
+{
+    let Field(_, _, width, decimal) = f;
+    if decimal {
+        return bits::decimal_code(width / 4, value);
+    }
+    value
+}
+
 // The value goes into a readable field.
 fn put_value(bytes: &mut [u8], f: Field, value: u64)
     requires { ⌜ Readable f ⌝ }
     ensures { λ _. ⌜ now (bytes .exit) ≡ withValue f value (now (bytes .entry)) ⌝ }
 {
-    let width = f.2;
-    let at = first_bit(f);
-    if f.3 {
-        let code = bits::decimal_code(width / 4, value);
-        bits::write_bits(bytes, at, width, code);
-        return;
-    }
-    bits::write_bits(bytes, at, width, value);
+    let Field(_, _, width, _) = f;
+    bits::write_bits(bytes, first_bit(f), width, code_of(f, value));
 }
 
 // The value goes into the field; every other bit stays.
@@ -100,6 +103,6 @@ pub fn write_field(bytes: &mut [u8], f: Field, value: u64)
 pub fn fits_binary(f: Field, value: u64) -> bool
     ensures { λ r. ⌜ r ≡ binaryFits f value ⌝ }
 {
-    let width = f.2;
-    f.3 | bits::fits_bits(value, width)
+    let Field(_, _, width, decimal) = f;
+    decimal | bits::fits_bits(value, width)
 }

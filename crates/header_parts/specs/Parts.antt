@@ -1,12 +1,11 @@
--- Parts of a table of fields, and of a list of values: what the code reads, writes and judges of eight rows. A part that is short
--- ends in rows `none`, which are not written, and which the value 0 fits.
+-- Parts of a table of fields, and of a list of values: what the code reads, writes and judges of a few rows.
 use Prim.Native.Nat.{ℕ, zero, suc, _+_}
 use mathlib.Core.Path.{_≡_}
 use mathlib.Core.Bool.{Bool, _&&_}
 use mathlib.Core.List.{List, [], _∷_}
 use lib.ListN.{getD, set}
 use Rattle.fields.specs.declared.Field.{Field}
-use Rattle.fields.specs.Field.{none, valueOf, writeValue, binaryFits}
+use Rattle.fields.specs.Field.{valueOf, binaryFits}
 
 -- the n values of v from place k on
 abbrev pub cells : ℕ → ℕ → List ℕ → List ℕ
@@ -18,21 +17,12 @@ abbrev pub Reads : ℕ → List Field → List ℕ → List ℕ → Type 0
 Reads k [] b r = Unit
 Reads k (f ∷ fs) b r = (getD r k 0 ≡ valueOf f b) × Reads (suc k) fs b r
 
--- the bytes b with a value put into a row: shut, so that a list of them stays short
-unfoldable pub rowWritten : Field → ℕ → List ℕ → List ℕ
-rowWritten f v b = writeValue f v b
-
 -- the n values of p from place k on, put into v, the first of p at place `at`
 abbrev pub placed : ℕ → ℕ → ℕ → List ℕ → List ℕ → List ℕ
 placed k zero at p v = v
 placed k (suc n) at p v = placed (suc k) n at p (set v (at + k) (getD p k 0))
 
--- the values of v from place at + k on put into the n rows of t from row k on
-abbrev pub writeRows : ℕ → ℕ → List Field → ℕ → List ℕ → List ℕ → List ℕ
-writeRows k zero t at v b = b
-writeRows k (suc n) t at v b = writeRows (suc k) n t at v (rowWritten (getD t k none) (getD v (at + k) 0) b)
-
--- the values of v from place at + k on fit the n rows of t from row k on, and the rest fits
-abbrev pub fitRows : ℕ → ℕ → List Field → ℕ → List ℕ → Bool → Bool
-fitRows k zero t at v rest = rest
-fitRows k (suc n) t at v rest = binaryFits (getD t k none) (getD v (at + k) 0) && fitRows (suc k) n t at v rest
+-- the values of v from place k on fit the rows, if those are binary, and the rest fits
+abbrev pub fitRows : List Field → ℕ → List ℕ → Bool → Bool
+fitRows [] k v rest = rest
+fitRows (f ∷ fs) k v rest = binaryFits f (getD v k 0) && fitRows fs (suc k) v rest

@@ -1,79 +1,11 @@
-// The values of a header, judged and written by the table of 1985. FORMAT, "The record".
+// The values of a header, judged and written by the table of 1985. FORMAT, "The record". As in reading, every row is named: a leaf
+// whose row and place are literal is compiled to a few instructions, and one that takes its row from a table is not.
 ghost use mathlib.Core.Path.{_≡_};
 ghost use Rattle.fields.specs.Field.{binaryFits, decimalFits};
 ghost use Rattle.fields.specs.Table.{writeAll, allFit};
-ghost use Rattle.header.specs.Format.{fields1985};
-use fields::Field;
-
-// No row: fills the last part of a table.
-const NO_FIELD: Field = Field(0, 0, 0, false);
-
-// The format: the rows that every edition has, eight a part, and those of 1985.
-const COMMON_1: [Field; 8] = [
-    header::CLOCK_ORIGIN,
-    header::SESSION_START,
-    header::COPY_ERROR,
-    header::CONVERSION,
-    header::COMPRESSION,
-    header::TAPE_NUMBER,
-    header::RECORD_NUMBER,
-    header::LENGTH_WORDS,
-];
-
-const COMMON_2: [Field; 8] = [
-    header::PRIME_FEA,
-    header::SECONDARY_FEA,
-    header::SPACECRAFT,
-    header::SPC,
-    header::YEAR,
-    header::DAY,
-    header::TIME_TAG,
-    header::PREDICT_0,
-];
-
-const COMMON_3: [Field; 8] = [
-    header::PREDICT_1,
-    header::PREDICT_2,
-    header::PREDICT_3,
-    header::PREDICT_4,
-    header::PREDICT_5,
-    header::PREDICT_6,
-    header::PREDICT_7,
-    header::PREDICT_8,
-];
-
-const COMMON_4: [Field; 8] = [
-    header::PREDICT_9,
-    header::STATUS,
-    header::READBACK,
-    header::READBACK_TAG,
-    header::CALCULATED,
-    header::UPDATE_TAG,
-    header::FREQUENCY_RATE_DIGITS,
-    header::FREQUENCY_RATE_POWER,
-];
-
-const COMMON_5: [Field; 8] = [
-    header::FREQUENCY_RATE_SIGN,
-    header::PHASE_1,
-    header::PHASE_2,
-    header::SELECTOR_1,
-    header::SELECTOR_2,
-    header::SELECTOR_3,
-    header::SELECTOR_4,
-    header::COUNTER_TAG,
-];
-
-const OWN_1985: [Field; 8] = [
-    header::FILTER,
-    header::SAMPLE_RATE,
-    header::SYNC,
-    header::WORD_39,
-    header::REGISTER_1,
-    header::REGISTER_2,
-    NO_FIELD,
-    NO_FIELD,
-];
+ghost use Rattle.header_parts.specs.Parts.{cells, fitRows};
+ghost use Rattle.header.specs.Format.{common1, common2, common3, common4, common5, own1985, fields1985};
+use header::FIELD_COUNT;
 
 // The first number of fifteen digits, and of six.
 const FREQUENCY_BELOW: u64 = 100_000_000_000_000;
@@ -81,7 +13,7 @@ const FREQUENCY_BELOW: u64 = 100_000_000_000_000;
 const RATE_BELOW: u64 = 100_000;
 
 // Whether every decimal value has no more digits than its field.
-pub fn decimals_fit(values: [u64; header::FIELD_COUNT]) -> bool
+pub fn decimals_fit(values: [u64; FIELD_COUNT]) -> bool
     ensures { λ r. ⌜ r ≡ allFit decimalFits fields1985 values ⌝ }
 {
     (values[header::AT_READBACK] < FREQUENCY_BELOW)
@@ -89,26 +21,213 @@ pub fn decimals_fit(values: [u64; header::FIELD_COUNT]) -> bool
             & (values[header::AT_FREQUENCY_RATE_DIGITS] < RATE_BELOW))
 }
 
+// The first number of more than 1, 3, 4, 7, 8, 9, 16, 27 and 48 bits.
+const BITS_1: u64 = 2;
+
+const BITS_3: u64 = 8;
+
+const BITS_4: u64 = 16;
+
+const BITS_7: u64 = 128;
+
+const BITS_8: u64 = 256;
+
+const BITS_9: u64 = 512;
+
+const BITS_16: u64 = 65_536;
+
+const BITS_27: u64 = 134_217_728;
+
+const BITS_48: u64 = 281_474_976_710_656;
+
+// Whether the values of each part's binary rows have no more bits than their fields, and the rest fits too.
+fn fit_common_1(values: [u64; FIELD_COUNT], rest: bool) -> bool
+    ensures { λ r. ⌜ r ≡ fitRows common1 0 values rest ⌝ }
+{
+    let clock_origin = values[0] < BITS_1;
+    let session_start = values[1] < BITS_1;
+    let copy_error = values[2] < BITS_1;
+    let conversion = values[3] < BITS_1;
+    let compression = values[4] < BITS_4;
+    let tape_number = values[5] < BITS_8;
+    let record_number = values[6] < BITS_16;
+    let length_words = values[7] < BITS_16;
+    clock_origin
+        & (session_start
+            & (copy_error
+                & (conversion
+                    & (compression & (tape_number & (record_number & (length_words & rest)))))))
+}
+
+fn fit_common_2(values: [u64; FIELD_COUNT], rest: bool) -> bool
+    ensures { λ r. ⌜ r ≡ fitRows common2 8 values rest ⌝ }
+{
+    let prime_fea = values[8] < BITS_8;
+    let secondary_fea = values[9] < BITS_8;
+    let spacecraft = values[10] < BITS_8;
+    let spc = values[11] < BITS_8;
+    let year = values[12] < BITS_7;
+    let day = values[13] < BITS_9;
+    let time_tag = values[14] < BITS_27;
+    let predict_0 = values[15] < BITS_8;
+    prime_fea
+        & (secondary_fea & (spacecraft & (spc & (year & (day & (time_tag & (predict_0 & rest)))))))
+}
+
+fn fit_common_3(values: [u64; FIELD_COUNT], rest: bool) -> bool
+    ensures { λ r. ⌜ r ≡ fitRows common3 16 values rest ⌝ }
+{
+    let predict_1 = values[16] < BITS_8;
+    let predict_2 = values[17] < BITS_8;
+    let predict_3 = values[18] < BITS_8;
+    let predict_4 = values[19] < BITS_8;
+    let predict_5 = values[20] < BITS_8;
+    let predict_6 = values[21] < BITS_8;
+    let predict_7 = values[22] < BITS_8;
+    let predict_8 = values[23] < BITS_8;
+    predict_1
+        & (predict_2
+            & (predict_3
+                & (predict_4 & (predict_5 & (predict_6 & (predict_7 & (predict_8 & rest)))))))
+}
+
+fn fit_common_4(values: [u64; FIELD_COUNT], rest: bool) -> bool
+    ensures { λ r. ⌜ r ≡ fitRows common4 24 values rest ⌝ }
+{
+    let predict_9 = values[24] < BITS_8;
+    let status = values[25] < BITS_8;
+    let readback_tag = values[27] < BITS_27;
+    let update_tag = values[29] < BITS_27;
+    let frequency_rate_power = values[31] < BITS_3;
+    predict_9 & (status & (readback_tag & (update_tag & (frequency_rate_power & rest))))
+}
+
+fn fit_common_5(values: [u64; FIELD_COUNT], rest: bool) -> bool
+    ensures { λ r. ⌜ r ≡ fitRows common5 32 values rest ⌝ }
+{
+    let frequency_rate_sign = values[32] < BITS_1;
+    let phase_1 = values[33] < BITS_48;
+    let phase_2 = values[34] < BITS_48;
+    let selector_1 = values[35] < BITS_4;
+    let selector_2 = values[36] < BITS_4;
+    let selector_3 = values[37] < BITS_4;
+    let selector_4 = values[38] < BITS_4;
+    let counter_tag = values[39] < BITS_27;
+    frequency_rate_sign
+        & (phase_1
+            & (phase_2
+                & (selector_1 & (selector_2 & (selector_3 & (selector_4 & (counter_tag & rest)))))))
+}
+
+fn fit_own_1985(values: [u64; FIELD_COUNT], rest: bool) -> bool
+    ensures { λ r. ⌜ r ≡ fitRows own1985 40 values rest ⌝ }
+{
+    let filter = values[40] < BITS_4;
+    let sample_rate = values[41] < BITS_16;
+    let sync = values[42] < BITS_16;
+    let word_39 = values[43] < BITS_16;
+    let register_1 = values[44] < BITS_8;
+    let register_2 = values[45] < BITS_8;
+    filter & (sample_rate & (sync & (word_39 & (register_1 & (register_2 & rest)))))
+}
+
 // Whether every binary value has no more bits than its field.
-pub fn binaries_fit(values: [u64; header::FIELD_COUNT]) -> bool
+pub fn binaries_fit(values: [u64; FIELD_COUNT]) -> bool
     ensures { λ r. ⌜ r ≡ allFit binaryFits fields1985 values ⌝ }
 {
-    let f = header_parts::fit_part(OWN_1985, &values, 40, true);
-    let e = header_parts::fit_part(COMMON_5, &values, 32, f);
-    let d = header_parts::fit_part(COMMON_4, &values, 24, e);
-    let c = header_parts::fit_part(COMMON_3, &values, 16, d);
-    let b = header_parts::fit_part(COMMON_2, &values, 8, c);
-    header_parts::fit_part(COMMON_1, &values, 0, b)
+    let own = fit_own_1985(values, true);
+    let from_5 = fit_common_5(values, own);
+    let from_4 = fit_common_4(values, from_5);
+    let from_3 = fit_common_3(values, from_4);
+    let from_2 = fit_common_2(values, from_3);
+    fit_common_1(values, from_2)
+}
+
+// The values of each part go into its rows.
+fn write_common_1(bytes: &mut [u8], values: [u64; FIELD_COUNT])
+    ensures { λ _. ⌜ now (bytes .exit) ≡ writeAll common1 (cells 0 8 values) (now (bytes .entry)) ⌝ }
+{
+    fields::write_field(bytes, header::CLOCK_ORIGIN, values[0]);
+    fields::write_field(bytes, header::SESSION_START, values[1]);
+    fields::write_field(bytes, header::COPY_ERROR, values[2]);
+    fields::write_field(bytes, header::CONVERSION, values[3]);
+    fields::write_field(bytes, header::COMPRESSION, values[4]);
+    fields::write_field(bytes, header::TAPE_NUMBER, values[5]);
+    fields::write_field(bytes, header::RECORD_NUMBER, values[6]);
+    fields::write_field(bytes, header::LENGTH_WORDS, values[7]);
+}
+
+fn write_common_2(bytes: &mut [u8], values: [u64; FIELD_COUNT])
+    ensures { λ _. ⌜ now (bytes .exit) ≡ writeAll common2 (cells 8 8 values) (now (bytes .entry)) ⌝ }
+{
+    fields::write_field(bytes, header::PRIME_FEA, values[8]);
+    fields::write_field(bytes, header::SECONDARY_FEA, values[9]);
+    fields::write_field(bytes, header::SPACECRAFT, values[10]);
+    fields::write_field(bytes, header::SPC, values[11]);
+    fields::write_field(bytes, header::YEAR, values[12]);
+    fields::write_field(bytes, header::DAY, values[13]);
+    fields::write_field(bytes, header::TIME_TAG, values[14]);
+    fields::write_field(bytes, header::PREDICT_0, values[15]);
+}
+
+fn write_common_3(bytes: &mut [u8], values: [u64; FIELD_COUNT])
+    ensures { λ _. ⌜ now (bytes .exit) ≡ writeAll common3 (cells 16 8 values) (now (bytes .entry)) ⌝ }
+{
+    fields::write_field(bytes, header::PREDICT_1, values[16]);
+    fields::write_field(bytes, header::PREDICT_2, values[17]);
+    fields::write_field(bytes, header::PREDICT_3, values[18]);
+    fields::write_field(bytes, header::PREDICT_4, values[19]);
+    fields::write_field(bytes, header::PREDICT_5, values[20]);
+    fields::write_field(bytes, header::PREDICT_6, values[21]);
+    fields::write_field(bytes, header::PREDICT_7, values[22]);
+    fields::write_field(bytes, header::PREDICT_8, values[23]);
+}
+
+fn write_common_4(bytes: &mut [u8], values: [u64; FIELD_COUNT])
+    ensures { λ _. ⌜ now (bytes .exit) ≡ writeAll common4 (cells 24 8 values) (now (bytes .entry)) ⌝ }
+{
+    fields::write_field(bytes, header::PREDICT_9, values[24]);
+    fields::write_field(bytes, header::STATUS, values[25]);
+    fields::write_field(bytes, header::READBACK, values[26]);
+    fields::write_field(bytes, header::READBACK_TAG, values[27]);
+    fields::write_field(bytes, header::CALCULATED, values[28]);
+    fields::write_field(bytes, header::UPDATE_TAG, values[29]);
+    fields::write_field(bytes, header::FREQUENCY_RATE_DIGITS, values[30]);
+    fields::write_field(bytes, header::FREQUENCY_RATE_POWER, values[31]);
+}
+
+fn write_common_5(bytes: &mut [u8], values: [u64; FIELD_COUNT])
+    ensures { λ _. ⌜ now (bytes .exit) ≡ writeAll common5 (cells 32 8 values) (now (bytes .entry)) ⌝ }
+{
+    fields::write_field(bytes, header::FREQUENCY_RATE_SIGN, values[32]);
+    fields::write_field(bytes, header::PHASE_1, values[33]);
+    fields::write_field(bytes, header::PHASE_2, values[34]);
+    fields::write_field(bytes, header::SELECTOR_1, values[35]);
+    fields::write_field(bytes, header::SELECTOR_2, values[36]);
+    fields::write_field(bytes, header::SELECTOR_3, values[37]);
+    fields::write_field(bytes, header::SELECTOR_4, values[38]);
+    fields::write_field(bytes, header::COUNTER_TAG, values[39]);
+}
+
+fn write_own_1985(bytes: &mut [u8], values: [u64; FIELD_COUNT])
+    ensures { λ _. ⌜ now (bytes .exit) ≡ writeAll own1985 (cells 40 6 values) (now (bytes .entry)) ⌝ }
+{
+    fields::write_field(bytes, header::FILTER, values[40]);
+    fields::write_field(bytes, header::SAMPLE_RATE, values[41]);
+    fields::write_field(bytes, header::SYNC, values[42]);
+    fields::write_field(bytes, header::WORD_39, values[43]);
+    fields::write_field(bytes, header::REGISTER_1, values[44]);
+    fields::write_field(bytes, header::REGISTER_2, values[45]);
 }
 
 // The values go into their fields; every bit that no field names stays.
-pub fn write_values(bytes: &mut [u8], values: [u64; header::FIELD_COUNT])
+pub fn write_values(bytes: &mut [u8], values: [u64; FIELD_COUNT])
     ensures { λ _. ⌜ now (bytes .exit) ≡ writeAll fields1985 values (now (bytes .entry)) ⌝ }
 {
-    header_parts::write_part(bytes, COMMON_1, &values, 0);
-    header_parts::write_part(bytes, COMMON_2, &values, 8);
-    header_parts::write_part(bytes, COMMON_3, &values, 16);
-    header_parts::write_part(bytes, COMMON_4, &values, 24);
-    header_parts::write_part(bytes, COMMON_5, &values, 32);
-    header_parts::write_part(bytes, OWN_1985, &values, 40);
+    write_common_1(bytes, values);
+    write_common_2(bytes, values);
+    write_common_3(bytes, values);
+    write_common_4(bytes, values);
+    write_common_5(bytes, values);
+    write_own_1985(bytes, values);
 }

@@ -1,4 +1,4 @@
-// The lister (01, "The lister"): it reads a reel on standard input and writes its listing to standard output. A read that fails
+// The lister (FORMAT, "The listing"): it reads a reel on standard input and writes its listing to standard output. A read that fails
 // is not taken for the end of the tape: then a message goes to standard error, and no listing is written.
 ghost use Rattle.lister.specs.Input.{Within};
 use libc::STDERR_FILENO;

@@ -23,7 +23,7 @@ use Rattle.index_model.proofs.Demand3.{Demand3, demand3, SaysYes, test-says-yes
 use Rattle.index_means.specs.Means.{meansAnswer}
 use Rattle.index_means.specs.OfLedger.{ledgerMeansAnswer}
 use Rattle.index_means.proofs.History.{ByLedger, means-of-history}
-use Rattle.odr.specs.declared.OpenOut.{OpenOut}
+use Rattle.c_answers.specs.declared.OpenOut.{OpenOut}
 
 module _ (pattern : List ℕ) (F C R : ℕ) (c : Buffers)
     (r : OpenOut) (promised : told (r .refusal) (r .opening) ≡ openAnswer pattern F C R c) (none : r .refusal ≡ 0) (calls : List Call) where

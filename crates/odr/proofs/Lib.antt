@@ -1,3 +1,3 @@
 pub mod Told
-pub mod Demand3
 pub mod Segment
+pub mod Demand3

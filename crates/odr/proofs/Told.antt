@@ -1,34 +1,44 @@
--- An answer that comes back as a struct, by its case. Assumes nothing.
-use Prim.Native.Nat.{ℕ}
-use mathlib.Core.Path.{_≡_, ap, sym, _∙_}
-use mathlib.Core.Bool.{Bool}
+-- What stands at a place, and two phases, as they come back. Assumes nothing.
+use mathlib.Core.Path.{_≡_, refl, ap, _∙_}
 use mathlib.Core.List.{List}
 use lib.Ieee.{Float}
 use lib.ListN.{getD}
-use Rattle.answers.specs.Answer.{Answer, refused, told, unless}
-use Rattle.answers.proofs.Refusals.{refused-some}
-use Rattle.listing.specs.declared.ListAnswer.{ListAnswer}
-use Rattle.listing.specs.declared.ListAnswer.the-variants as ListAnswer
-use Rattle.listing.specs.Shown.{shownList}
-use Rattle.odr.specs.Out.{zeroFloat, textOut}
+use Rattle.answers.specs.Answer.{Answer}
+use Rattle.reel.specs.declared.Step.{Step}
+use Rattle.reel.specs.declared.Step.the-variants as Step
+use Rattle.reel.specs.Reel.{Found}
+use Rattle.reel.specs.Shown.{shownStep}
+use Rattle.times.specs.declared.PhaseAnswer.{PhaseAnswer}
+use Rattle.times.specs.declared.PhaseAnswer.the-variants as PhaseAnswer
+use Rattle.times.specs.Phases.{shownPhases}
+use Rattle.c_answers.specs.declared.PhasesOut.{PhasesOut}
+use Rattle.c_answers.specs.declared.StepOut.{StepOut}
+use Rattle.c_answers.specs.Out.{zeroFloat, phasesOut, stepOut}
+use Rattle.odr.specs.Out.{PhasesTold, StepTold, stepNumber, stepStart, stepEnd}
 
--- the case r of what a call gave, s
-pub in-case : {S A : Type 0} (shown : S → A) {s r : S} {a : A} → shown s ≡ a → s ≡ r → shown r ≡ a
-in-case shown e is = ap shown (sym is) ∙ e
+step-case : (s : Step) → StepTold (stepOut s) (shownStep s)
+step-case (Step.Record start end) = record { number = refl; start = refl; end = refl }
+step-case Step.Finished = record { number = refl; start = refl; end = refl }
+step-case (Step.Refused n) = record { number = refl; start = refl; end = refl }
 
--- a refusal's number is not 0, so that the struct gives no value
-pub told-refused : {A : Type 0} (n : ℕ) (empty v : A) {x : A} {m : ℕ} → refused x m ≡ unless n empty v → told m x ≡ unless n empty v
-told-refused {A} n empty v {x} {m} p = ap (λ (t : Bool). record { number = m; value = x; given = t }) (refused-some n empty v x m p) ∙ p
+pub step-told : (f : Found) (s : Step) {r : StepOut} → shownStep s ≡ f → r ≡ stepOut s → StepTold r f
+step-told f s p e =
+    let t = step-case s in
+    record {
+      number = ap (λ (r : StepOut). r .answer) e ∙ t .number ∙ ap stepNumber p;
+      start = ap (λ (r : StepOut). r .start) e ∙ t .start ∙ ap stepStart p;
+      end = ap (λ (r : StepOut). r .end) e ∙ t .end ∙ ap stepEnd p;
+    }
 
--- a text that was written, or not
-pub text-told : (n v : ℕ) (a : ListAnswer) → shownList a ≡ unless n 0 v → told (textOut a .refusal) (textOut a .length) ≡ unless n 0 v
-text-told n v (ListAnswer.Length m) p = p
-text-told n v (ListAnswer.Refused m) p = told-refused n 0 v p
+phases-case : (s : PhaseAnswer) → PhasesTold (phasesOut s) (shownPhases s)
+phases-case (PhaseAnswer.Cycles first second) = record { number = refl; first = refl; second = refl }
+phases-case (PhaseAnswer.Refused n) = record { number = refl; first = refl; second = refl }
 
--- two phases, given or not
-module _ {x a : Answer (List Float)} (e : x ≡ a) where
-  pub number-is : x .number ≡ a .number
-  number-is = ap (λ (y : Answer (List Float)). y .number) e
-
-  pub phase-is : (k : ℕ) → getD (x .value) k zeroFloat ≡ getD (a .value) k zeroFloat
-  phase-is k = ap (λ (y : Answer (List Float)). getD (y .value) k zeroFloat) e
+pub phases-told : (a : Answer (List Float)) (s : PhaseAnswer) {r : PhasesOut} → shownPhases s ≡ a → r ≡ phasesOut s → PhasesTold r a
+phases-told a s p e =
+    let t = phases-case s in
+    record {
+      number = ap (λ (r : PhasesOut). r .refusal) e ∙ t .number ∙ ap (λ (x : Answer (List Float)). x .number) p;
+      first = ap (λ (r : PhasesOut). r .first) e ∙ t .first ∙ ap (λ (x : Answer (List Float)). getD (x .value) 0 zeroFloat) p;
+      second = ap (λ (r : PhasesOut). r .second) e ∙ t .second ∙ ap (λ (x : Answer (List Float)). getD (x .value) 1 zeroFloat) p;
+    }

@@ -8,7 +8,7 @@ use native.Mathlib.Nat.{zero-add}
 use native.Mathlib.Omega.{arith}
 use lib.Dec.{leb, ltb}
 use lib.ListN.{length, take, drop}
-use lib.Seq.{sets, sets-eq, take-append-seam}
+use lib.Seq.{sets-eq, length-sets, take-append-seam}
 use borrow.Author.Tests.{leb-true, leb-false, lt-ltb, le-ltb}
 use Rattle.answers.specs.Answer.{Answer, accepted, refused, unless}
 use Rattle.answers.specs.Refusal.{_when_, first}
@@ -61,8 +61,10 @@ module _ (out : List ℕ) (at : ℕ) (text : List ℕ) where
   pub judged-full : {said : Bool} → said ≡ leb (at + length text) (length out) → said ≡ false → length out < at + length text
   judged-full e t = leb-false (at + length text) (length out) (sym e ∙ t)
 
--- a text written from the start of a buffer is the buffer's front
-pub front : {line text after : List ℕ} {n : ℕ} → length text ≤ length line → Written line 0 text n after → take n after ≡ text
-front {line} {text} h w =
-    (λ i. take ((w .place ∙ zero-add (length text)) i) ((w .buffer ∙ sets-eq text line 0 (omega arith)) i))
-    ∙ take-append-seam text (drop (0 + length text) line)
+-- a text written from the start of a buffer that has room for it is the buffer's front
+pub front : {line text after : List ℕ} {n : ℕ} → length text ≤ length line → Written line 0 text n after → (n ≤ length after) × (take n after ≡ text)
+front {line} {text} h w = (
+  omega (arith, w .place, ap length (w .buffer), length-sets line 0 text),
+  (λ i. take ((w .place ∙ zero-add (length text)) i) ((w .buffer ∙ sets-eq text line 0 (omega arith)) i))
+      ∙ take-append-seam text (drop (0 + length text) line),
+)

@@ -1,22 +1,12 @@
--- The segment's bytes, copied, with their number; none beside a refusal. Assumes nothing.
 use Prim.Native.Nat.{ℕ}
 use mathlib.Core.Path.{ap, _∙_}
 use mathlib.Core.List.{List}
 use lib.ListN.{length, getD}
 use Rattle.lists.specs.Fill.{tab}
-use Rattle.odr.specs.Out.{longestSegment}
+use Rattle.c_answers.specs.Out.{longestSegment}
 use borrow.Author.Needs.{needs}
 use Rattle.odr.proofs.odr_segment.Statement.{statement}
 use Rattle.odr.proofs.odr_segment.Tie as tie
-
-segment-requires : tie.Need-segment-requires
-segment-requires c κs = search needs
-
-copied-requires : tie.Need-copied-requires
-copied-requires c κs = search needs
-
-segment-refusal-requires : tie.Need-segment-refusal-requires
-segment-refusal-requires c κs = search needs
 
 returns : tie.Need-returns
 returns c =
@@ -25,8 +15,8 @@ returns c =
     record {
       number = c .segment-refusal .ensures;
       size = ap length e;
-      bytes = copy .copied .ensures ∙ ap (λ (l : List ℕ). tab (λ (k : ℕ). getD l k 0) 0 longestSegment) e;
+      bytes = copy .segment-bytes .ensures ∙ ap (λ (l : List ℕ). tab (λ (k : ℕ). getD l k 0) 0 longestSegment) e;
     }
 
 pub odr-segment-spec : {M : Type 1} → statement M
-odr-segment-spec = tie.close (tie.spec segment-requires copied-requires segment-refusal-requires returns)
+odr-segment-spec = tie.close (tie.spec (λ c κs. search needs) (λ c κs. search needs) (λ c κs. search needs) returns)

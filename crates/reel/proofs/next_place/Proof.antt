@@ -14,18 +14,6 @@ use Rattle.reel.proofs.next_place.Tie as tie
 after : (reel : List ℕ) (place : ℕ) (s r : Step) → shownStep s ≡ stepAt reel place → s ≡ r → placeAfter (shownStep r) place ≡ nextPlace reel place
 after reel place s r e is = ap (λ (f : Found). placeAfter f place) (ap shownStep (sym is) ∙ e)
 
-step-at-requires : tie.Need-step-at-requires
-step-at-requires c κs = search needs
-
-enum-known-end : tie.Need-enum-known-end
-enum-known-end c = search needs
-
-enum-told : tie.Need-enum-told
-enum-told c = search needs
-
-enum-told-2 : tie.Need-enum-told-2
-enum-told-2 c = search needs
-
 returns : tie.Need-returns
 returns c =
     let k = c .before .before .before in
@@ -47,4 +35,4 @@ returns-3 c =
 pub next-place-spec : {M : Type 1} → statement M
 next-place-spec =
     tie.close
-    (tie.spec step-at-requires enum-known-end enum-told enum-told-2 returns returns-2 returns-3)
+    (tie.spec (λ c κs. search needs) (λ c. search needs) (λ c. search needs) (λ c. search needs) returns returns-2 returns-3)

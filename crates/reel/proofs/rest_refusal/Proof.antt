@@ -32,9 +32,6 @@ returns c =
     let k = c .before .before in
     by-tests (now (k .args .rest)) (k .args .words) (k .pre .0) true _ (c .if1 .taken) refl
 
-mul-size : tie.Need-mul-size
-mul-size c = search needs
-
 returns-2 : tie.Need-returns-2
 returns-2 c =
     let k = c .before .before .before in
@@ -45,9 +42,6 @@ slice-aggregate-refusal-of c =
     let k = c .before .before .before .before in
     sym (length-take-le (2 * k .args .words) (now (k .args .rest)) (c .before .if2 .left))
 
-refusal-of-requires : tie.Need-refusal-of-requires
-refusal-of-requires c κs = search needs
-
 returns-3 : tie.Need-returns-3
 returns-3 c =
     let l = c .before .before in
@@ -57,4 +51,4 @@ returns-3 c =
 
 pub rest-refusal-spec : {M : Type 1} → statement M
 rest-refusal-spec =
-    tie.close (tie.spec returns mul-size returns-2 slice-aggregate-refusal-of refusal-of-requires returns-3)
+    tie.close (tie.spec returns (λ c. search needs) returns-2 slice-aggregate-refusal-of (λ c κs. search needs) returns-3)

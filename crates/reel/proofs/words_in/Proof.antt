@@ -6,13 +6,10 @@ use borrow.Author.Needs.{needs}
 use Rattle.reel.proofs.words_in.Statement.{statement}
 use Rattle.reel.proofs.words_in.Tie as tie
 
-read-field-requires : tie.Need-read-field-requires
-read-field-requires c κs = search needs
-
 returns : tie.Need-returns
 returns c =
     let e = c .read-field .ensures in
     (e, subst (λ (n : ℕ). n < 2 ^ 16) (sym e) (words-small (now (c .before .before .args .rest))))
 
 pub words-in-spec : {M : Type 1} → statement M
-words-in-spec = tie.close (tie.spec read-field-requires returns)
+words-in-spec = tie.close (tie.spec (λ c κs. search needs) returns)

@@ -3,17 +3,11 @@ use Rattle.text.proofs.Judging.{judged-room, judged-full, placed, too-l
 use Rattle.text.proofs.put_text.Statement.{statement}
 use Rattle.text.proofs.put_text.Tie as tie
 
-room-requires : tie.Need-room-requires
-room-requires c κs = search needs
-
 write-text-requires : tie.Need-write-text-requires
 write-text-requires c κs =
     let r = c .before .before in
     let a = r .before .before .before .args in
     record { enough = judged-room (a .out .now) (a .at) (a .text .now) (r .room .ensures) (c .before .if1 .taken) }
-
-same-length : tie.Need-same-length
-same-length c = search needs
 
 returns : tie.Need-returns
 returns c =
@@ -29,4 +23,4 @@ returns-2 c =
     too-long (a .out .now) (a .at) (a .text .now) (judged-full (a .out .now) (a .at) (a .text .now) (r .room .ensures) (c .if1 .left))
 
 pub put-text-spec : {M : Type 1} → statement M
-put-text-spec = tie.close (tie.spec room-requires write-text-requires same-length returns returns-2)
+put-text-spec = tie.close (tie.spec (λ c κs. search needs) write-text-requires (λ c. search needs) returns returns-2)

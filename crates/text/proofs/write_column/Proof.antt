@@ -11,13 +11,10 @@ write-decimal-requires c κs = room-first (ascii ",") refl (c .before .before .p
 write-byte-requires : tie.Need-write-byte-requires
 write-byte-requires c κs = let n = c .before .before .before in room-rest refl (n .before .before .before .pre) (n .write-decimal .ensures)
 
-same-length : tie.Need-same-length
-same-length c = search needs
-
 returns : tie.Need-returns
 returns c =
     let comma = c .before .before in
     written-both refl (comma .before .before .before .before .write-decimal .ensures) (comma .write-byte .ensures)
 
 pub write-column-spec : {M : Type 1} → statement M
-write-column-spec = tie.close (tie.spec write-decimal-requires write-byte-requires same-length returns)
+write-column-spec = tie.close (tie.spec write-decimal-requires write-byte-requires (λ c. search needs) returns)

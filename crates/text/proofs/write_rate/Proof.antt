@@ -24,13 +24,10 @@ write-byte-requires c κs =
     let a = n .before .before .before in
     room-rest (same a) (a .pre) (n .write-signed-fixed .ensures)
 
-same-length : tie.Need-same-length
-same-length c = search needs
-
 returns : tie.Need-returns
 returns c =
     let n = c .before .before .before .before .before .before in
     written-both (same (n .before .before .before)) (n .write-signed-fixed .ensures) (c .before .before .write-byte .ensures)
 
 pub write-rate-spec : {M : Type 1} → statement M
-write-rate-spec = tie.close (tie.spec write-signed-fixed-requires write-byte-requires same-length returns)
+write-rate-spec = tie.close (tie.spec write-signed-fixed-requires write-byte-requires (λ c. search needs) returns)

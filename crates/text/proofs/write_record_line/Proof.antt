@@ -74,9 +74,6 @@ write-rate-requires c κs =
     let p = c .before .before .before .before in
     room-as (ap rateColumn (rate-read c)) (room-rest refl (room-three (third p)) (p .write-frequency .ensures))
 
-same-length : tie.Need-same-length
-same-length c = search needs
-
 returns : tie.Need-returns
 unfolding recordLine
 returns c =
@@ -99,5 +96,5 @@ write-record-line-spec =
     write-column-requires-3
     write-frequency-requires
     write-rate-requires
-    same-length
+    (λ c. search needs)
     returns)

@@ -16,9 +16,6 @@ room-number : (c : tie.After-write-text) → Room (c .write-text .last .0) (c .w
 unfolding refusedLine
 room-number c = room-rest refl (entry c .pre) (c .write-text .ensures)
 
-slice-aggregate-write-text : tie.Need-slice-aggregate-write-text
-slice-aggregate-write-text c = search needs
-
 write-text-requires : tie.Need-write-text-requires
 unfolding refusedLine
 write-text-requires c κs =
@@ -33,9 +30,6 @@ write-byte-requires c κs =
     let n = c .before .before .before in
     room-rest refl (room-number (n .before .before .before .before)) (n .write-decimal .ensures)
 
-same-length : tie.Need-same-length
-same-length c = search needs
-
 returns : tie.Need-returns
 unfolding refusedLine
 returns c =
@@ -47,9 +41,9 @@ pub write-refused-line-spec : {M : Type 1} → statement M
 write-refused-line-spec =
     tie.close
     (tie.spec
-    slice-aggregate-write-text
+    (λ c. search needs)
     write-text-requires
     write-decimal-requires
     write-byte-requires
-    same-length
+    (λ c. search needs)
     returns)

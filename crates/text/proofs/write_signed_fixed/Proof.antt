@@ -19,12 +19,6 @@ plain c =
     let a = c .before .before .before .before in
     signed-not-below (a .args .places) (a .fits .value) (c .before .before .magnitude .ensures) (sym (c .before .below-zero .ensures) ∙ c .if1 .left)
 
-magnitude-requires : tie.Need-magnitude-requires
-magnitude-requires c κs = search needs
-
-below-zero-requires : tie.Need-below-zero-requires
-below-zero-requires c κs = search needs
-
 write-byte-requires : tie.Need-write-byte-requires
 write-byte-requires c κs =
     let t = c .before in
@@ -39,16 +33,10 @@ write-fixed-requires c κs =
 write-fixed-requires-2 : tie.Need-write-fixed-requires-2
 write-fixed-requires-2 c κs = let t = c .before in room-as (plain t) (t .before .before .before .before .pre)
 
-same-length : tie.Need-same-length
-same-length c = search needs
-
 returns : tie.Need-returns
 returns c =
     let w = c .before .before .before .before .before .before in
     written-both (minus (w .before .before)) (w .write-byte .ensures) (c .before .before .write-fixed .ensures)
-
-same-length-2 : tie.Need-same-length-2
-same-length-2 c = search needs
 
 returns-2 : tie.Need-returns-2
 returns-2 c = written-as (plain (c .before .before .before .before)) (c .before .before .write-fixed2 .ensures)
@@ -57,12 +45,12 @@ pub write-signed-fixed-spec : {M : Type 1} → statement M
 write-signed-fixed-spec =
     tie.close
     (tie.spec
-    magnitude-requires
-    below-zero-requires
+    (λ c κs. search needs)
+    (λ c κs. search needs)
     write-byte-requires
     write-fixed-requires
     write-fixed-requires-2
-    same-length
+    (λ c. search needs)
     returns
-    same-length-2
+    (λ c. search needs)
     returns-2)
