@@ -7,7 +7,20 @@ use native.Mathlib.Omega.{arith}
 use native.Mathlib.Numerals.{add-one}
 use Rattle.lists.specs.Fill.{tab}
 use Rattle.lists.proofs.Fill.{tab-ext}
-use Rattle.index_model.specs.Cells.{width, cellLimit, cell, blockAt, noRow, mergeBy, merge, merged, mergeIf, rowWithin, cellFrom, secondFrom}
+use Rattle.index_model.specs.Cells.{
+  width,
+  cellLimit,
+  cell,
+  blockAt,
+  noRow,
+  mergeBy,
+  merge,
+  merged,
+  mergeIf,
+  rowWithin,
+  cellFrom,
+  secondFrom,
+}
 use Rattle.index_model.proofs.Blocks.{block-at}
 use Rattle.index_model.proofs.Seconds.{second-at, length-merged, merged-at}
 
@@ -38,13 +51,16 @@ unfolding secondFrom cellFrom
 none-passed rows s = refl
 
 -- one row more
-pub row-passed : (rows : List ℕ) (s i : ℕ) → cond (rowWithin rows i s) (merged (secondFrom rows s i) (blockAt rows i)) (secondFrom rows s i) ≡ secondFrom rows s (i + 1)
+pub row-passed : (rows : List ℕ) (s i : ℕ)
+    → cond (rowWithin rows i s) (merged (secondFrom rows s i) (blockAt rows i)) (secondFrom rows s i) ≡ secondFrom rows s (i + 1)
 unfolding secondFrom cellFrom
 row-passed rows s i = by (rowWithin rows i s) ∙ (λ t. secondFrom rows s (sym (add-one i) t))
   where
-    by : (u : Bool) → cond u (merged (secondFrom rows s i) (blockAt rows i)) (secondFrom rows s i) ≡ tab (λ (j : ℕ). mergeIf u j (cellFrom rows s j i) (cell rows i j)) 0 width
+    by : (u : Bool) → cond u (merged (secondFrom rows s i) (blockAt rows i)) (secondFrom rows s i)
+        ≡ tab (λ (j : ℕ). mergeIf u j (cellFrom rows s j i) (cell rows i j)) 0 width
     by true =
         tab-ext (λ (j : ℕ). merge j (cellFrom rows s j i) (cell rows i j)) width 0 (merged (secondFrom rows s i) (blockAt rows i))
         (length-merged (secondFrom rows s i) (blockAt rows i))
-        (λ j h. merged-at (secondFrom rows s i) (blockAt rows i) j h ∙ (λ t. merge j (second-at rows s i j h t) (block-at rows i j h t)))
+        (λ j h. merged-at (secondFrom rows s i) (blockAt rows i) j h
+        ∙ (λ t. merge j (second-at rows s i j h t) (block-at rows i j h t)))
     by false = refl

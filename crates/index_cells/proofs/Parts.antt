@@ -14,11 +14,13 @@ use Rattle.index_model.specs.Cells.{width, cell, blockAt, withBlock, noRow}
 use Rattle.index_cells.specs.Blocks.{blockOrNone, blockPut}
 
 -- a list of a row's length whose cells are all filled by a rule
-pub all-filled : {b : List ℕ} {f : ℕ → ℕ} {n : ℕ} {l : List ℕ} → n ≡ width → length b ≡ width → Filled b f 0 n l → l ≡ tab f 0 width
+pub all-filled : {b : List ℕ} {f : ℕ → ℕ} {n : ℕ} {l : List ℕ} → n ≡ width → length b ≡ width → Filled b f 0 n l
+    → l ≡ tab f 0 width
 all-filled {b} {f} {n} {l} e w o = tab-ext f width 0 l (o .same ∙ w) (λ i h. o .low i (omega (arith, e)))
 
 -- a part lent and given back
-pub part-put : (l : List ℕ) (i : ℕ) (block : List ℕ) → putMid (width * i) (width * i + width - width * i) l block ≡ withBlock l i block
+pub part-put : (l : List ℕ) (i : ℕ) (block : List ℕ) → putMid (width * i) (width * i + width - width * i) l block
+    ≡ withBlock l i block
 unfolding withBlock
 part-put l i block = λ t. putMid (width * i) (add-sub-cancel-left (width * i) width t) l block
 

@@ -1,5 +1,5 @@
--- A row or a second read and replaced in any buffer whatever, also one that is too short for it. FORMAT, "The index of seconds". Only the
--- library's own functions cite this: calls judge 13 and 14 first.
+-- A row or a second read and replaced in any buffer whatever, also one that is too short for it. FORMAT, "The index of seconds".
+-- Only the library's own functions cite this: calls judge 13 and 14 first.
 use Prim.Native.Nat.{ℕ, _/_}
 use mathlib.Core.Bool.{Bool, cond}
 use mathlib.Core.List.{List}

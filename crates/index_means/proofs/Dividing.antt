@@ -16,13 +16,28 @@ unfolding meansOf
 means-none total count z = rw (eq-eqb count 0 z)
 
 means-some : (total : Total) (count : ℕ) → (count ≡ 0 → ⊥)
-    → meansOf total count ≡ record { mean = quotientOf (total .sum) count; «mean_square» = quotientOf (pos (total .squares)) count }
+    → meansOf total count ≡ record {
+      mean =
+          quotientOf (total .sum) count;
+      «mean_square» = quotientOf (pos (total .squares)) count;
+    }
 unfolding meansOf
 means-some total count h = rw (ne-eqb count 0 h)
 
 -- the sum and the squares over the count, all three of them held exactly
 pub divided : (total : Total) (count : ℕ) → ExactTotal total → count ≤ exactLimit → (count ≡ 0 → ⊥)
-    → _≡_ {A = Means} (record { mean = div binary64 (ofInt binary64 (total .sum)) (ofInt binary64 (pos count)); «mean_square» = div binary64 (ofInt binary64 (pos (total .squares))) (ofInt binary64 (pos count)) }) (meansOf total count)
+    → _≡_ {A =
+    Means} (record {
+      mean = div binary64 (ofInt binary64 (total .sum))
+          (ofInt binary64 (pos count));
+      «mean_square» = div binary64 (ofInt binary64 (pos (total .squares)))
+          (ofInt binary64 (pos count));
+    }) (meansOf total count)
 divided total count exact few h =
     let p : 0 < count = pos-of-ne-zero h in
-    rw (whole-quotient (total .sum) count (exact .sums) p few, whole-quotient (pos (total .squares)) count (exact .squared) p few, means-some total count h)
+    rw (
+      whole-quotient (total .sum) count (exact .sums) p few,
+      whole-quotient (pos (total .squares)) count
+          (exact .squared) p few,
+      means-some total count h,
+    )

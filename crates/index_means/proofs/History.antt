@@ -1,7 +1,7 @@
--- The means of every history. Take any accepted opening, whatever its buffers held before, and any list of calls, as demand 3 does
--- (crates/index_model/proofs/Demand3.antt). A question then about the means of a second is answered as the ledger answers it: 17
--- outside the window, else for each channel the sum, and the sum of squares, of the samples of the records then held in that
--- second, over the number of those samples. Assumes nothing.
+-- The means of every history. Take any accepted opening, whatever its buffers held before, and any list of calls, as demand 3
+-- does (crates/index_model/proofs/Demand3.antt). A question then about the means of a second is answered as the ledger answers
+-- it: 17 outside the window, else for each channel the sum, and the sum of squares, of the samples of the records then held in
+-- that second, over the number of those samples. Assumes nothing.
 use Prim.Native.Nat.{ℕ, _*_}
 use mathlib.Core.Path.{_≡_, refl, ap, sym, _∙_, subst}
 use mathlib.Core.Bool.{Bool, true, false, not}
@@ -32,18 +32,21 @@ module _ (o : Opening) (L : Ledger) (sound : SoundLedger o L) (s : ℕ) where
   samples channel = flatMap (channelSamples channel) (recordsOf L s (o .«highest_number»))
 
   counted : (channel : ℕ) → length (recordsOf L s (o .«highest_number»)) * perRecord o ≡ length (samples channel)
-  counted channel = sym (joined-length o channel (recordsOf L s (o .«highest_number»)) (second-sound L sound s (o .«highest_number»)))
+  counted channel =
+      sym (joined-length o channel (recordsOf L s (o .«highest_number»)) (second-sound L sound s (o .«highest_number»)))
 
   by-ledger : secondMeans o (ledgerSecond o L s) ≡ ledgerMeans o L s
   unfolding ledgerSecond totalsOver ledgerMeans
   by-ledger =
-      λ t. meansOf (totalOf (samples 1)) (counted 1 t) ∷ meansOf (totalOf (samples 2)) (counted 2 t) ∷ meansOf (totalOf (samples 3)) (counted 3 t) ∷ meansOf (totalOf (samples 4)) (counted 4 t) ∷ []
+      λ t. meansOf (totalOf (samples 1)) (counted 1 t) ∷ meansOf (totalOf (samples 2)) (counted 2 t)
+      ∷ meansOf (totalOf (samples 3)) (counted 3 t) ∷ meansOf (totalOf (samples 4)) (counted 4 t) ∷ []
 
   pub answered : meansBy o (ledgerQuery o L s) ≡ ledgerMeansAnswer o L s
   unfolding ledgerQuery ledgerMeansAnswer
   answered = by-test (inWindow o s)
     where
-      by-test : (t : Bool) → meansBy o (unless (first (17 when not t ∷ [])) noSecond (ledgerSecond o L s)) ≡ unless (first (17 when not t ∷ [])) noMeansEach (ledgerMeans o L s)
+      by-test : (t : Bool) → meansBy o (unless (first (17 when not t ∷ [])) noSecond (ledgerSecond o L s))
+          ≡ unless (first (17 when not t ∷ [])) noMeansEach (ledgerMeans o L s)
       by-test true = λ t. accepted (by-ledger t)
       by-test false = refl
 
@@ -63,5 +66,6 @@ module _ (pattern : List ℕ) (F C R : ℕ) (c : Buffers) (none : openRefusal pa
       proved =
           let end = ended pattern F C R c none calls in
           let L = ledgerAfter o calls noRecords in
-          ap (meansBy o) (ask-answered o (fits pattern F C R c none calls) L (after o calls (opened pattern F C R c)) (end .0) (end .1) s)
+          ap (meansBy o) (ask-answered o (fits pattern F C R c none calls) L (after o calls (opened pattern F C R c)) (end .0)
+          (end .1) s)
           ∙ answered o L (end .0 .sound) s

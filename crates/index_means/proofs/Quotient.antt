@@ -27,7 +27,8 @@ unlike-false true = refl
 unlike-false false = refl
 
 -- x is the whole number a with the sign s, and y is b, above 0
-div-value : (x y : Float) (s : Bool) (a b : ℕ) → 0 < b → HasValue x s a 1 → HasValue y false b 1 → div binary64 x y ≡ round binary64 s a b
+div-value : (x y : Float) (s : Bool) (a b : ℕ) → 0 < b → HasValue x s a 1 → HasValue y false b 1
+    → div binary64 x y ≡ round binary64 s a b
 unfolding div
 div-value nan y s a b p v w = absurd v
 div-value (inf t) y s a b p v w = absurd v
@@ -37,7 +38,8 @@ div-value (fin t m e) (fin r n d) s a b p v w =
     let nu : 0 < n * up d = digits n b (up d) (down d) (w .1) (mul-pos p (down-pos d)) in
     let x : m * up e ≡ a * down e = sym (mul-one (m * up e)) ∙ v .1 in
     let y : n * up d ≡ b * down d = sym (mul-one (n * up d)) ∙ w .1 in
-    ap (λ (z : Bool). cond z (cond (eqb m 0) nan (inf (unlike t r))) (round binary64 (unlike t r) (m * up e * down d) (n * up d * down e))) (ne-eqb n 0 (not-zero n (up d) nu))
+    ap (λ (z : Bool). cond z (cond (eqb m 0) nan (inf (unlike t r)))
+    (round binary64 (unlike t r) (m * up e * down d) (n * up d * down e))) (ne-eqb n 0 (not-zero n (up d) nu))
     ∙ ap (λ (z : Bool). round binary64 (unlike z r) (m * up e * down d) (n * up d * down e)) (v .0)
     ∙ ap (λ (z : Bool). round binary64 (unlike s z) (m * up e * down d) (n * up d * down e)) (w .0)
     ∙ ap (λ (z : Bool). round binary64 z (m * up e * down d) (n * up d * down e)) (unlike-false s)
@@ -45,10 +47,15 @@ div-value (fin t m e) (fin r n d) s a b p v w =
     (rw (x, y) (simp (mul-assoc, mul-comm, mul-left-comm)))
 
 -- two whole numbers that are held exactly
-pub whole-quotient : (z : ℤ) (b : ℕ) → natAbs z ≤ exactLimit → 0 < b → b ≤ exactLimit → div binary64 (ofInt binary64 z) (ofInt binary64 (pos b)) ≡ quotientOf z b
+pub whole-quotient : (z : ℤ) (b : ℕ) → natAbs z ≤ exactLimit → 0 < b → b ≤ exactLimit
+    → div binary64 (ofInt binary64 z) (ofInt binary64 (pos b)) ≡ quotientOf z b
 unfolding ofInt quotientOf
-whole-quotient (pos a) b h p k = div-value (round binary64 false a 1) (round binary64 false b 1) false a b p (round-whole binary64 false a h) (round-whole binary64 false b k)
-whole-quotient (negsuc a) b h p k = div-value (round binary64 true (suc a) 1) (round binary64 false b 1) true (suc a) b p (round-whole binary64 true (suc a) h) (round-whole binary64 false b k)
+whole-quotient (pos a) b h p k =
+    div-value (round binary64 false a 1) (round binary64 false b 1) false a b p (round-whole binary64 false a h)
+    (round-whole binary64 false b k)
+whole-quotient (negsuc a) b h p k =
+    div-value (round binary64 true (suc a) 1) (round binary64 false b 1) true (suc a) b p (round-whole binary64 true (suc a) h)
+    (round-whole binary64 false b k)
 
 -- the cast to a float loses nothing
 pub cast-exact : (z : ℤ) → natAbs z ≤ exactLimit → T (inFloat binary64 z)

@@ -1,5 +1,5 @@
--- The mean and the mean square of each channel of a second, each one division of two whole numbers held exactly; both are 0 for no
--- samples. FORMAT, "The index of seconds". A question about them is refused as one about the second's totals is: 13, 14, 17.
+-- The mean and the mean square of each channel of a second, each one division of two whole numbers held exactly; both are 0 for
+-- no samples. FORMAT, "The index of seconds". A question about them is refused as one about the second's totals is: 13, 14, 17.
 use Prim.Native.Nat.{ℕ, suc, _*_}
 use mathlib.Core.Bool.{true, false, cond}
 use mathlib.Core.List.{List, [], _∷_, map}

@@ -1,5 +1,5 @@
--- The means of a second worked out from nothing, over the samples of the ledger's records: their sum, and the sum of their squares,
--- over their number. No cell is read, and no count but that of the samples themselves. FORMAT, "The ledger".
+-- The means of a second worked out from nothing, over the samples of the ledger's records: their sum, and the sum of their
+-- squares, over their number. No cell is read, and no count but that of the samples themselves. FORMAT, "The ledger".
 use Prim.Native.Nat.{ℕ}
 use mathlib.Core.Bool.{not}
 use mathlib.Core.List.{List, [], _∷_, flatMap}

@@ -1,6 +1,6 @@
-// The mean and the mean square of each channel of a second: a question to the index, as `index_query::query` is. Each is one division
-// of two whole numbers that a 64-bit float holds exactly; both are 0 for no samples. FORMAT, "The index of seconds". It takes any
-// value of an opening and any cells, and changes none.
+// The mean and the mean square of each channel of a second: a question to the index, as `index_query::query` is. Each is one
+// division of two whole numbers that a 64-bit float holds exactly; both are 0 for no samples. FORMAT, "The index of seconds". It
+// takes any value of an opening and any cells, and changes none.
 ghost use mathlib.Core.Path.{_≡_};
 ghost use Prim.Native.Nat.{_≤_};
 ghost use Rattle.answers.specs.Answer.{refused};

@@ -19,7 +19,19 @@ use Rattle.index_model.specs.Ledger.{Ledger, withEntry}
 use Rattle.index_model.specs.History.{isOf}
 use Rattle.index_model.proofs.Blocks.{at-block, at-other}
 use Rattle.index_model.proofs.Rows.{rowFor, row-records, row-for-length}
-use Rattle.index_model.proofs.Totals.{share, cellTotal, one-share, own-share, share-none, share-all, count-sum, sums-fit, RowsOf, within-is, passed}
+use Rattle.index_model.proofs.Totals.{
+  share,
+  cellTotal,
+  one-share,
+  own-share,
+  share-none,
+  share-all,
+  count-sum,
+  sums-fit,
+  RowsOf,
+  within-is,
+  passed,
+}
 use Rattle.index_model.proofs.Sound.{Sound, SoundLedger, small-rows}
 use Rattle.index_model.proofs.Limits.{in-window, full-most}
 use Rattle.index_model.proofs.Seconds.{Inside, leaveFor, length-second, second-at}
@@ -50,12 +62,14 @@ module _ (o : Opening) where
   few-fit L g s j e = sums-fit L (small-rows (g .sound)) s j R (omega (arith, g .few s, full-most o)) e
 
   -- a pass over the rows gives a second's cells
-  pub pass-is : (L : Ledger) → Regular L → (rows : List ℕ) → RowsOf R L rows → (s j : ℕ) → j < width → getD (secondFrom rows s R) j 0 ≡ cellTotal L s j R
+  pub pass-is : (L : Ledger) → Regular L → (rows : List ℕ) → RowsOf R L rows → (s j : ℕ) → j < width
+      → getD (secondFrom rows s R) j 0 ≡ cellTotal L s j R
   pass-is L g rows are s j h = second-at rows s R j h ∙ passed R L rows are s j h R (omega arith) (few-fit L g s j)
 
   -- ## the ledger with one entry changed
 
-  entry-cases : (L : Ledger) (n : ℕ) (held : Option (List ℕ)) → SoundLedger o L → ((b : List ℕ) → held ≡ some b → Sound o b) → SoundLedger o (withEntry L n held)
+  entry-cases : (L : Ledger) (n : ℕ) (held : Option (List ℕ)) → SoundLedger o L → ((b : List ℕ) → held ≡ some b → Sound o b)
+      → SoundLedger o (withEntry L n held)
   entry-cases L n held g h m b = by-test (eqb m n)
     where
       by-test : (t : Bool) → cond t held (L m) ≡ some b → Sound o b
@@ -76,7 +90,8 @@ module _ (o : Opening) where
           sound = entry-cases L n none (g .sound) (λ b e. absurd (let z : _≡_ {A = ℕ} 0 1 = cc in omega arith));
         }
 
-    pub regular-with : (b : List ℕ) → Sound o b → cellTotal (withEntry L n none) (secondOf b) 0 R < fullCount o → Regular (withEntry L n (some b))
+    pub regular-with : (b : List ℕ) → Sound o b → cellTotal (withEntry L n none) (secondOf b) 0 R < fullCount o
+        → Regular (withEntry L n (some b))
     regular-with b h room =
         record {
           few = λ s. by-test s (eqb (secondOf b) s) refl;
@@ -88,7 +103,14 @@ module _ (o : Opening) where
 
         by-test : (s : ℕ) (t : Bool) → eqb (secondOf b) s ≡ t → cellTotal (withEntry L n (some b)) s 0 R ≤ fullCount o
         by-test s true e =
-            omega (arith, count s, share-all s 0 b e, row-records b, subst (λ (x : ℕ). cellTotal (withEntry L n none) x 0 R < fullCount o) (eqb-true (secondOf b) s e) room)
+            omega (
+              arith,
+              count s,
+              share-all s 0 b e,
+              row-records b,
+              subst
+                  (λ (x : ℕ). cellTotal (withEntry L n none) x 0 R < fullCount o) (eqb-true (secondOf b) s e) room,
+            )
         by-test s false e = omega (arith, count s, share-none s 0 (some b) e, regular-without .few s)
 
   -- ## the cells with one row changed
@@ -112,17 +134,21 @@ module _ (o : Opening) where
     pub rows-after : (held : Option (List ℕ)) → RowsOf R (withEntry L n held) (withBlock (c .rows) (n - 1) (rowFor held))
     rows-after held i hi j hj = by-test (eqb (suc i) n) refl
       where
-        by-test : (t : Bool) → eqb (suc i) n ≡ t → cell (withBlock (c .rows) (n - 1) (rowFor held)) i j ≡ getD (rowFor (cond t held (L (suc i)))) j 0
+        by-test : (t : Bool) → eqb (suc i) n ≡ t → cell (withBlock (c .rows) (n - 1) (rowFor held)) i j
+            ≡ getD (rowFor (cond t held (L (suc i)))) j 0
         by-test true e =
             let z : i ≡ n - 1 = omega (arith, eqb-true (suc i) n e) in
             (λ t. cell (withBlock (c .rows) (n - 1) (rowFor held)) (z t) j)
             ∙ at-block (c .rows) (n - 1) (rowFor held) row-fits (row-for-length held) j hj
         by-test false e =
-            at-other (c .rows) (n - 1) (rowFor held) row-fits (row-for-length held) i j hj (λ z. eqb-false (suc i) n e (omega (arith, z)))
+            at-other (c .rows) (n - 1) (rowFor held) row-fits (row-for-length held) i j hj
+            (λ z. eqb-false (suc i) n e (omega (arith, z)))
             ∙ agree .rows-are i hi j hj
 
     -- the second that is left, worked out anew, and every other second as it was
-    pub left-cells : (held : Option (List ℕ)) → Inside o held → (L' : Ledger) → Regular L' → (rows : List ℕ) → RowsOf R L' rows → (k : ℕ) → k < C → (j : ℕ) → j < width → cell (leaveFor o rows held (c .seconds)) k j ≡ cond (isOf (F + k) held) (cellTotal L' (F + k) j R) (cellTotal L (F + k) j R)
+    pub left-cells : (held : Option (List ℕ)) → Inside o held → (L' : Ledger) → Regular L' → (rows : List ℕ) → RowsOf R L' rows
+        → (k : ℕ) → k < C → (j : ℕ) → j < width → cell (leaveFor o rows held (c .seconds)) k j
+        ≡ cond (isOf (F + k) held) (cellTotal L' (F + k) j R) (cellTotal L (F + k) j R)
     left-cells none h L' g rows are k hk j hj = agree .seconds-are k hk j hj
     left-cells (some b) h L' g rows are k hk j hj = by-test (eqb (secondOf b) (F + k)) refl
       where
@@ -135,7 +161,8 @@ module _ (o : Opening) where
         room : width * placeOf o s + width ≤ length (c .seconds)
         room = omega (arith, w .0, w .1, agree .seconds-long)
 
-        by-test : (t : Bool) → eqb s (F + k) ≡ t → cell (withBlock (c .seconds) (placeOf o s) (secondFrom rows s R)) k j ≡ cond t (cellTotal L' (F + k) j R) (cellTotal L (F + k) j R)
+        by-test : (t : Bool) → eqb s (F + k) ≡ t → cell (withBlock (c .seconds) (placeOf o s) (secondFrom rows s R)) k j
+            ≡ cond t (cellTotal L' (F + k) j R) (cellTotal L (F + k) j R)
         by-test true e =
             let z : k ≡ s - F = omega (arith, eqb-true s (F + k) e) in
             (λ t. cell (withBlock (c .seconds) (placeOf o s) (secondFrom rows s R)) (z t) j)

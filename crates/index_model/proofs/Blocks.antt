@@ -21,11 +21,20 @@ module _ (l : List ℕ) (i : ℕ) (block : List ℕ) (fits : width * i + width �
   pub length-with : length (withBlock l i block) ≡ length l
   unfolding withBlock
   length-with =
-      omega (arith, length-append (take (width * i) l) (block ++ tail), length-append block tail, head-length, length-drop width (drop (width * i) l), length-drop (width * i) l)
+      omega (
+        arith,
+        length-append (take (width * i) l) (block ++ tail),
+        length-append block tail,
+        head-length,
+        length-drop width
+            (drop (width * i) l),
+        length-drop (width * i) l,
+      )
 
   before : (m : ℕ) → m < width * i → getD (withBlock l i block) m 0 ≡ getD l m 0
   unfolding withBlock
-  before m h = List·getD-append (take (width * i) l) (block ++ tail) 0 m (omega (arith, head-length)) ∙ getD-take (width * i) l m 0 h
+  before m h =
+      List·getD-append (take (width * i) l) (block ++ tail) 0 m (omega (arith, head-length)) ∙ getD-take (width * i) l m 0 h
 
   from : (m : ℕ) → getD (withBlock l i block) (width * i + m) 0 ≡ getD (block ++ tail) m 0
   unfolding withBlock
@@ -61,7 +70,8 @@ pub block-at : (l : List ℕ) (i j : ℕ) → j < width → getD (blockAt l i) j
 block-at l i j h = getD-take width (drop (width * i) l) j 0 h ∙ getD-drop (width * i) l j 0
 
 -- a block is its cells
-pub block-cells : (l : List ℕ) (i : ℕ) → width * i + width ≤ length l → (f : ℕ → ℕ) → ((j : ℕ) → j < width → cell l i j ≡ f j) → blockAt l i ≡ tab f 0 width
+pub block-cells : (l : List ℕ) (i : ℕ) → width * i + width ≤ length l → (f : ℕ → ℕ) → ((j : ℕ) → j < width → cell l i j ≡ f j)
+    → blockAt l i ≡ tab f 0 width
 block-cells l i fits f h =
     tab-ext f width 0 (blockAt l i) (length-take-le width (drop (width * i) l) (omega (arith, length-drop (width * i) l)))
     (λ j q. block-at l i j q ∙ h j q)

@@ -23,8 +23,29 @@ use Rattle.index_model.proofs.Rows.{rowFor, row-for-length}
 use Rattle.index_model.proofs.Totals.{cellTotal, one-share, own-share, share-none, share-all, stays}
 use Rattle.index_model.proofs.Sound.{Sound}
 use Rattle.index_model.proofs.Limits.{in-window}
-use Rattle.index_model.proofs.Seconds.{leaveFor, leave-is, length-merged, merged-at, length-leave, leave-frame, length-join, join-frame}
-use Rattle.index_model.proofs.Agreement.{Regular, Agree, few-fit, inside, regular-without, regular-with, row-fits, old-row, old-within, rows-after, left-cells}
+use Rattle.index_model.proofs.Seconds.{
+  leaveFor,
+  leave-is,
+  length-merged,
+  merged-at,
+  length-leave,
+  leave-frame,
+  length-join,
+  join-frame,
+}
+use Rattle.index_model.proofs.Agreement.{
+  Regular,
+  Agree,
+  few-fit,
+  inside,
+  regular-without,
+  regular-with,
+  row-fits,
+  old-row,
+  old-within,
+  rows-after,
+  left-cells,
+}
 
 -- what holds once number n has another entry: the cells are those of the ledger, and no cell changed but those of the row and
 -- of the seconds that the two entries are of
@@ -34,9 +55,11 @@ pub record Changed (o : Opening) (L : Ledger) (n : ℕ) (entry : Option (List �
   pub rows-length : length (new .rows) ≡ length (old .rows)
   pub seconds-length : length (new .seconds) ≡ length (old .seconds)
   pub rows : (m : ℕ) → eqb (suc (m / width)) n ≡ false → getD (new .rows) m 0 ≡ getD (old .rows) m 0
-  pub seconds : (m : ℕ) → isOf (o .«first_second» + m / width) (L n) ≡ false → isOf (o .«first_second» + m / width) entry ≡ false → getD (new .seconds) m 0 ≡ getD (old .seconds) m 0
+  pub seconds : (m : ℕ) → isOf (o .«first_second» + m / width) (L n) ≡ false → isOf (o .«first_second» + m / width) entry ≡ false
+      → getD (new .seconds) m 0 ≡ getD (old .seconds) m 0
 
-module _ (o : Opening) (L : Ledger) (c : Buffers) (regular : Regular o L) (agree : Agree o L c) (n : ℕ) (p : 0 < n) (q : n ≤ o .«highest_number») where
+module _ (o : Opening) (L : Ledger) (c : Buffers) (regular : Regular o L) (agree : Agree o L c) (n : ℕ) (p : 0 < n)
+    (q : n ≤ o .«highest_number») where
   abbrev F : ℕ
   F = o .«first_second»
 
@@ -53,20 +76,26 @@ module _ (o : Opening) (L : Ledger) (c : Buffers) (regular : Regular o L) (agree
   abbrev secondsLeft : Option (List ℕ) → List ℕ
   secondsLeft held = leaveFor o (rowsWith held) (L n) (c .seconds)
 
-  left-is : (held : Option (List ℕ)) → leave o (rowsWith held) (cell (c .rows) (n - 1) 0) (cell (c .rows) (n - 1) 3) (c .seconds) ≡ secondsLeft held
+  left-is : (held : Option (List ℕ)) → leave o (rowsWith held) (cell (c .rows) (n - 1) 0) (cell (c .rows) (n - 1) 3) (c .seconds)
+      ≡ secondsLeft held
   left-is held =
-      (λ t. leave o (rowsWith held) (old-row o L c agree n p q 0 (omega arith) t) (old-row o L c agree n p q 3 (omega arith) t) (c .seconds))
+      (λ t. leave o (rowsWith held) (old-row o L c agree n p q 0 (omega arith) t) (old-row o L c agree n p q 3 (omega arith) t)
+      (c .seconds))
       ∙ leave-is o (rowsWith held) (L n) (c .seconds) (inside o L regular n p q)
 
   left-length : (held : Option (List ℕ)) → length (secondsLeft held) ≡ length (c .seconds)
   left-length held = length-leave o (rowsWith held) (L n) (c .seconds) (inside o L regular n p q) (agree .seconds-long)
 
-  left-are : (held : Option (List ℕ)) → Regular o (withEntry L n held) → (k : ℕ) → k < C → (j : ℕ) → j < width → cell (secondsLeft held) k j ≡ cond (isOf (F + k) (L n)) (cellTotal (withEntry L n held) (F + k) j R) (cellTotal L (F + k) j R)
+  left-are : (held : Option (List ℕ)) → Regular o (withEntry L n held) → (k : ℕ) → k < C → (j : ℕ) → j < width
+      → cell (secondsLeft held) k j
+      ≡ cond (isOf (F + k) (L n)) (cellTotal (withEntry L n held) (F + k) j R) (cellTotal L (F + k) j R)
   left-are held g =
-      left-cells o L c agree n p q (L n) (inside o L regular n p q) (withEntry L n held) g (rowsWith held) (rows-after o L c agree n p q held)
+      left-cells o L c agree n p q (L n) (inside o L regular n p q) (withEntry L n held) g (rowsWith held)
+      (rows-after o L c agree n p q held)
 
   -- a second that the new entry is not of is right once the old entry has left
-  settled : (held : Option (List ℕ)) (k j : ℕ) → isOf (F + k) held ≡ false → (t : Bool) → isOf (F + k) (L n) ≡ t → cond t (cellTotal (withEntry L n held) (F + k) j R) (cellTotal L (F + k) j R) ≡ cellTotal (withEntry L n held) (F + k) j R
+  settled : (held : Option (List ℕ)) (k j : ℕ) → isOf (F + k) held ≡ false → (t : Bool) → isOf (F + k) (L n) ≡ t
+      → cond t (cellTotal (withEntry L n held) (F + k) j R) (cellTotal L (F + k) j R) ≡ cellTotal (withEntry L n held) (F + k) j R
   settled held k j e true et = refl
   settled held k j e false et = sym (stays L n (F + k) j R held p q et e)
 
@@ -75,9 +104,11 @@ module _ (o : Opening) (L : Ledger) (c : Buffers) (regular : Regular o L) (agree
 
   rows-frame : (held : Option (List ℕ)) (m : ℕ) → eqb (suc (m / width)) n ≡ false → getD (rowsWith held) m 0 ≡ getD (c .rows) m 0
   rows-frame held m e =
-      elsewhere (c .rows) (n - 1) (rowFor held) (row-fits o L c agree n p q) (row-for-length held) m (λ z. eqb-false (suc (m / width)) n e (omega (arith, z)))
+      elsewhere (c .rows) (n - 1) (rowFor held) (row-fits o L c agree n p q) (row-for-length held) m
+      (λ z. eqb-false (suc (m / width)) n e (omega (arith, z)))
 
-  left-frame : (held : Option (List ℕ)) (m : ℕ) → isOf (F + m / width) (L n) ≡ false → getD (secondsLeft held) m 0 ≡ getD (c .seconds) m 0
+  left-frame : (held : Option (List ℕ)) (m : ℕ) → isOf (F + m / width) (L n) ≡ false
+      → getD (secondsLeft held) m 0 ≡ getD (c .seconds) m 0
   left-frame held m e = leave-frame o (rowsWith held) (L n) (c .seconds) (inside o L regular n p q) (agree .seconds-long) m e
 
   -- ## take out
@@ -133,10 +164,13 @@ module _ (o : Opening) (L : Ledger) (c : Buffers) (regular : Regular o L) (agree
     w = in-window o s (sound .window)
 
     -- the second that is joined: its other records' totals, merged with the row
-    added : (k j : ℕ) → k < C → j < width → eqb s (F + k) ≡ true → isOf (F + k) (L n) ≡ false → cell (withBlock (secondsLeft (some b)) (placeOf o s) (merged (blockAt (secondsLeft (some b)) (placeOf o s)) (rowOf b))) k j ≡ cellTotal new (F + k) j R
+    added : (k j : ℕ) → k < C → j < width → eqb s (F + k) ≡ true → isOf (F + k) (L n) ≡ false
+        → cell (withBlock (secondsLeft (some b)) (placeOf o s) (merged (blockAt (secondsLeft (some b)) (placeOf o s)) (rowOf b)))
+        k j ≡ cellTotal new (F + k) j R
     added k j hk hj e e' =
         (λ t. cell (withBlock seconds (placeOf o s) (merged part (rowOf b))) (z t) j)
-        ∙ at-block seconds (placeOf o s) (merged part (rowOf b)) (omega (arith, w .0, w .1, long)) (length-merged part (rowOf b)) j hj
+        ∙ at-block seconds (placeOf o s) (merged part (rowOf b)) (omega (arith, w .0, w .1, long))
+        (length-merged part (rowOf b)) j hj
         ∙ merged-at part (rowOf b) j hj
         ∙ (λ t. mergeBy g (before t) x)
         ∙ exact g others x (λ h. subst (λ (y : ℕ). y < cellLimit) is (few-fit o new new-regular (F + k) j h))
@@ -173,7 +207,8 @@ module _ (o : Opening) (L : Ledger) (c : Buffers) (regular : Regular o L) (agree
         is : cellTotal new (F + k) j R ≡ plainBy g others x
         is = one-share L n (some b) (F + k) j R p q ∙ (λ t. plainBy g others (share-all (F + k) j b e t))
 
-    put-seconds : (k : ℕ) → k < C → (j : ℕ) → j < width → cell (join (isOf s (L n)) (secondsLeft (some b)) (placeOf o s) (rowOf b)) k j ≡ cellTotal new (F + k) j R
+    put-seconds : (k : ℕ) → k < C → (j : ℕ) → j < width
+        → cell (join (isOf s (L n)) (secondsLeft (some b)) (placeOf o s) (rowOf b)) k j ≡ cellTotal new (F + k) j R
     unfolding join
     put-seconds k hk j hj = by-tests (isOf s (L n)) refl (eqb s (F + k)) refl
       where
@@ -183,18 +218,25 @@ module _ (o : Opening) (L : Ledger) (c : Buffers) (regular : Regular o L) (agree
         here : (t : Bool) → eqb s (F + k) ≡ true → isOf s (L n) ≡ t → isOf (F + k) (L n) ≡ t
         here t e e' = (λ i. isOf (sym (eqb-true s (F + k) e) i) (L n)) ∙ e'
 
-        by-tests : (t : Bool) → isOf s (L n) ≡ t → (u : Bool) → eqb s (F + k) ≡ u → cell (cond t seconds (withBlock seconds (placeOf o s) (merged (blockAt seconds (placeOf o s)) (rowOf b)))) k j ≡ cellTotal new (F + k) j R
+        by-tests : (t : Bool) → isOf s (L n) ≡ t → (u : Bool) → eqb s (F + k) ≡ u
+            → cell (cond t seconds (withBlock seconds (placeOf o s) (merged (blockAt seconds (placeOf o s)) (rowOf b)))) k j
+            ≡ cellTotal new (F + k) j R
         by-tests true et true eu =
-            left-are (some b) new-regular k hk j hj ∙ (λ i. cond (here true eu et i) (cellTotal new (F + k) j R) (cellTotal L (F + k) j R))
+            left-are (some b) new-regular k hk j hj
+            ∙ (λ i. cond (here true eu et i) (cellTotal new (F + k) j R) (cellTotal L (F + k) j R))
         by-tests true et false eu = left-are (some b) new-regular k hk j hj ∙ settled (some b) k j eu (isOf (F + k) (L n)) refl
         by-tests false et true eu = added k j hk hj eu (here false eu et)
         by-tests false et false eu =
-            at-other seconds (placeOf o s) (merged (blockAt seconds (placeOf o s)) (rowOf b)) (omega (arith, w .0, w .1, long)) (length-merged (blockAt seconds (placeOf o s)) (rowOf b)) k j hj (λ z. eqb-false s (F + k) eu (omega (arith, z, w .0)))
+            at-other seconds (placeOf o s) (merged (blockAt seconds (placeOf o s)) (rowOf b)) (omega (arith, w .0, w .1, long))
+            (length-merged (blockAt seconds (placeOf o s)) (rowOf b)) k j hj
+            (λ z. eqb-false s (F + k) eu (omega (arith, z, w .0)))
             ∙ left-are (some b) new-regular k hk j hj
             ∙ settled (some b) k j eu (isOf (F + k) (L n)) refl
 
     put-length : length (rowInserted o (n - 1) s (rowOf b) c .seconds) ≡ length (c .seconds)
-    put-length = ap length put-is ∙ length-join o s (sound .window) (rowOf b) (secondsLeft (some b)) long (isOf s (L n)) ∙ left-length (some b)
+    put-length =
+        ap length put-is ∙ length-join o s (sound .window) (rowOf b) (secondsLeft (some b)) long (isOf s (L n))
+        ∙ left-length (some b)
 
     put-agrees : Agree o new (rowInserted o (n - 1) s (rowOf b) c)
     put-agrees =

@@ -1,5 +1,5 @@
--- A channel's samples as the numbers in cells: the sum with the offset of each sample, the sum of squares, the offset less the least,
--- the greatest plus its offset; and that the cells decode to the channel's total. Assumes nothing.
+-- A channel's samples as the numbers in cells: the sum with the offset of each sample, the sum of squares, the offset less the
+-- least, the greatest plus its offset; and that the cells decode to the channel's total. Assumes nothing.
 use Prim.Native.Nat.{ℕ, suc, _+_, _-_, _*_, _%_, _<_, _≤_, max}
 use mathlib.Core.Path.{_≡_, refl, ap, sym, _∙_}
 use mathlib.Core.List.{List, [], _∷_, _++_, foldl}
@@ -17,7 +17,16 @@ use Rattle.totals.specs.Total.{sumOf, squaresOf, lesser, greater, keptOf, least
 use Rattle.totals.proofs.Samples.{Bytes}
 use Rattle.index_model.specs.Cells.{sampleOffset, greatestOffset, natOf, channelCells}
 use Rattle.index_model.specs.Calls.{leastFrom, greatestFrom}
-use Rattle.index_model.proofs.Differences.{sub-pos, sub-neg, sub-same, sub-add, nat-plus, nat-minus, lesser-max, greater-max}
+use Rattle.index_model.proofs.Differences.{
+  sub-pos,
+  sub-neg,
+  sub-same,
+  sub-add,
+  nat-plus,
+  nat-minus,
+  lesser-max,
+  greater-max,
+}
 
 -- a sample and its offset, from 0 to 255
 unfoldable pub offset : ℤ → ℕ
@@ -56,7 +65,8 @@ sum-decoded [] h = refl
 sum-decoded (x ∷ l) h =
     (λ t. offset-back x (h .0) t +ℤ sum-decoded l (h .1) t)
     ∙ sub-add (offset x) sampleOffset (sumCode l) (sampleOffset * length l)
-    ∙ sub-same (offset x + sumCode l) (sampleOffset + sampleOffset * length l) (offset x + sumCode l) (sampleOffset * suc (length l)) (omega arith)
+    ∙ sub-same (offset x + sumCode l) (sampleOffset + sampleOffset * length l) (offset x + sumCode l)
+    (sampleOffset * suc (length l)) (omega arith)
 
 -- ## least and greatest
 
@@ -112,7 +122,9 @@ pub least-coding : Coding lesser leastCode (λ (a : ℕ). subℕ sampleOffset a)
 least-coding =
     record {
       kept = λ a b. lesser-max a b sampleOffset;
-      back = λ x h. offset-back x h ∙ sub-same (offset x) sampleOffset sampleOffset (256 - offset x) (omega (arith, offset-small x h));
+      back =
+          λ x h. offset-back x h
+          ∙ sub-same (offset x) sampleOffset sampleOffset (256 - offset x) (omega (arith, offset-small x h));
       some = λ x h. omega (arith, offset-small x h);
       most = λ x h. omega arith;
     }
@@ -143,11 +155,13 @@ cells-codes l bytes n e p = λ t. sum-cell t ∷ squaresOf l ∷ least-cell t �
 
     least-cell : natOf (pos sampleOffset -ℤ leastOf l) ≡ topCode leastCode l
     least-cell =
-        (λ t. natOf (pos sampleOffset -ℤ kept-decoded least-coding l bytes (omega (arith, e)) t)) ∙ nat-minus (topCode leastCode l) sampleOffset
+        (λ t. natOf (pos sampleOffset -ℤ kept-decoded least-coding l bytes (omega (arith, e)) t))
+        ∙ nat-minus (topCode leastCode l) sampleOffset
 
     greatest-cell : natOf (greatestOf l +ℤ pos greatestOffset) ≡ topCode greatestCode l
     greatest-cell =
-        (λ t. natOf (kept-decoded greatest-coding l bytes (omega (arith, e)) t +ℤ pos greatestOffset)) ∙ nat-plus (topCode greatestCode l) greatestOffset
+        (λ t. natOf (kept-decoded greatest-coding l bytes (omega (arith, e)) t +ℤ pos greatestOffset))
+        ∙ nat-plus (topCode greatestCode l) greatestOffset
 
 -- ## codes from 1 to 256 as signed bytes
 
@@ -187,7 +201,8 @@ greatest-from a p q = ⊎-elim low high (le-or-lt greatestOffset a)
         ∙ sym (sub-neg a greatestOffset (sampleOffset - a) (omega arith))
 
 -- so the sample kept is read back from its code
-pub kept-read : {rule : ℤ → ℤ → ℤ} {code : ℤ → ℕ} {value : ℕ → ℤ} → Coding rule code value → (from : ℕ → ℤ) → ((a : ℕ) → 1 ≤ a → a ≤ 256 → from a ≡ value a)
+pub kept-read : {rule : ℤ → ℤ → ℤ} {code : ℤ → ℕ} {value : ℕ → ℤ} → Coding rule code value → (from : ℕ → ℤ)
+    → ((a : ℕ) → 1 ≤ a → a ≤ 256 → from a ≡ value a)
     → (l : List ℤ) → Bytes l → 0 < length l → (x : ℕ) → x ≡ topCode code l → from x ≡ keptOf rule l
 kept-read {code = code} c from reads l signed some x e =
     ap from e ∙ reads (topCode code l) (top-some c l signed some) (top-most c l signed) ∙ sym (kept-decoded c l signed some)

@@ -20,9 +20,30 @@ use Rattle.index_model.specs.Calls.{fullCount, leastFrom, greatestFrom, 
 use Rattle.index_model.specs.Ledger.{Ledger, recordIn, recordsOf, countOf, totalsOver, ledgerSecond}
 use Rattle.index_model.proofs.Totals.{cellTotal}
 use Rattle.index_model.proofs.Differences.{minus-sub}
-use Rattle.index_model.proofs.Codes.{sumCode, topCode, leastCode, greatestCode, sum-decoded, least-coding, greatest-coding, least-from, greatest-from, kept-read}
+use Rattle.index_model.proofs.Codes.{
+  sumCode,
+  topCode,
+  leastCode,
+  greatestCode,
+  sum-decoded,
+  least-coding,
+  greatest-coding,
+  least-from,
+  greatest-from,
+  kept-read,
+}
 use Rattle.index_model.proofs.Sound.{Sound, SoundLedger, perRecord, samples-length, samples-signed, count-is, count-some}
-use Rattle.index_model.proofs.Measures.{Measures, measured, measures-records, measures-origins, measures-errors, measures-sum, measures-squares, measures-least, measures-greatest}
+use Rattle.index_model.proofs.Measures.{
+  Measures,
+  measured,
+  measures-records,
+  measures-origins,
+  measures-errors,
+  measures-sum,
+  measures-squares,
+  measures-least,
+  measures-greatest,
+}
 
 -- every record of a list is sound
 abbrev pub AllSound : Opening → List (List ℕ) → Type 0
@@ -31,7 +52,8 @@ AllSound o (b ∷ r) = Sound o b × AllSound o r
 
 -- the records of a second are
 module _ {o : Opening} (L : Ledger) (sound : SoundLedger o L) (s : ℕ) where
-  entry-sound : (r : List (List ℕ)) → AllSound o r → (held : Option (List ℕ)) → ((b : List ℕ) → held ≡ some b → Sound o b) → AllSound o (r ++ recordIn s held)
+  entry-sound : (r : List (List ℕ)) → AllSound o r → (held : Option (List ℕ)) → ((b : List ℕ) → held ≡ some b → Sound o b)
+      → AllSound o (r ++ recordIn s held)
   entry-sound [] h none k = tt
   entry-sound [] h (some b) k = by-test (eqb (secondOf b) s)
     where
@@ -50,18 +72,33 @@ module _ {o : Opening} (L : Ledger) (sound : SoundLedger o L) (s : ℕ) where
 joined-signed : (c : ℕ) (r : List (List ℕ)) → Bytes (flatMap (channelSamples c) r)
 unfolding flatMap
 joined-signed c [] = tt
-joined-signed c (b ∷ r) = bytes-append (channelSamples c b) (flatMap (channelSamples c) r) (samples-signed b c) (joined-signed c r)
+joined-signed c (b ∷ r) =
+    bytes-append (channelSamples c b) (flatMap (channelSamples c) r) (samples-signed b c) (joined-signed c r)
 
 module _ (o : Opening) (c : ℕ) where
   pub joined-length : (r : List (List ℕ)) → AllSound o r → length (flatMap (channelSamples c) r) ≡ length r * perRecord o
   unfolding flatMap
   joined-length [] h = omega arith
   joined-length (b ∷ r) h =
-      omega (arith, length-append (channelSamples c b) (flatMap (channelSamples c) r), samples-length b c, count-is (h .0), joined-length r (h .1))
+      omega (
+        arith,
+        length-append (channelSamples c b) (flatMap (channelSamples c) r),
+        samples-length b c,
+        count-is
+            (h .0),
+        joined-length r (h .1),
+      )
 
   joined-some : (b : List ℕ) (r : List (List ℕ)) → Sound o b → 0 < length (flatMap (channelSamples c) (b ∷ r))
   unfolding flatMap
-  joined-some b r h = omega (arith, length-append (channelSamples c b) (flatMap (channelSamples c) r), samples-length b c, count-some b (h .accepted))
+  joined-some b r h =
+      omega (
+        arith,
+        length-append (channelSamples c b) (flatMap (channelSamples c) r),
+        samples-length b c,
+        count-some b
+            (h .accepted),
+      )
 
   -- what the cells of a second hold for the channel, and the total that they say
   pub record Holds (r : List (List ℕ)) (second : List ℕ) : Type 0 where
@@ -71,16 +108,20 @@ module _ (o : Opening) (c : ℕ) where
     pub least : getD second (channelCell c 2) 0 ≡ topCode leastCode (flatMap (channelSamples c) r)
     pub greatest : getD second (channelCell c 3) 0 ≡ topCode greatestCode (flatMap (channelSamples c) r)
 
-  total-decoded : (r : List (List ℕ)) → AllSound o r → (second : List ℕ) → Holds r second → totalFrom (getD second 0 0 * perRecord o) second c ≡ totalOf (flatMap (channelSamples c) r)
+  total-decoded : (r : List (List ℕ)) → AllSound o r → (second : List ℕ) → Holds r second
+      → totalFrom (getD second 0 0 * perRecord o) second c ≡ totalOf (flatMap (channelSamples c) r)
   unfolding totalFrom totalOf sumOf squaresOf keptOf flatMap
-  total-decoded [] h second e = cond-none (getD second 0 0) (channelShown (getD second 0 0 * perRecord o) second c) noTotal (e .records)
+  total-decoded [] h second e =
+      cond-none (getD second 0 0) (channelShown (getD second 0 0 * perRecord o) second c) noTotal (e .records)
   total-decoded (b ∷ r) h second e =
-      cond-some (getD second 0 0) (channelShown (getD second 0 0 * perRecord o) second c) noTotal (λ z. omega (arith, e .records, z))
+      cond-some (getD second 0 0) (channelShown (getD second 0 0 * perRecord o) second c) noTotal
+      (λ z. omega (arith, e .records, z))
       ∙ (λ t. record {
         sum = sums t;
         squares = e .squares t;
         least = kept-read least-coding leastFrom least-from l signed some (getD second (channelCell c 2) 0) (e .least) t;
-        greatest = kept-read greatest-coding greatestFrom greatest-from l signed some (getD second (channelCell c 3) 0) (e .greatest) t;
+        greatest =
+            kept-read greatest-coding greatestFrom greatest-from l signed some (getD second (channelCell c 3) 0) (e .greatest) t;
       })
     where
       l : List ℤ
@@ -127,7 +168,8 @@ module _ (o : Opening) (L : Ledger) (sound : SoundLedger o L) (s : ℕ) where
         greatest = at (channelCell c 3) (omega arith) (measures-greatest o c p q);
       }
 
-  channel-decoded : (c : ℕ) → 1 ≤ c → c ≤ 4 → totalFrom (getD secondCells 0 0 * perRecord o) secondCells c ≡ totalOf (flatMap (channelSamples c) held)
+  channel-decoded : (c : ℕ) → 1 ≤ c → c ≤ 4 → totalFrom (getD secondCells 0 0 * perRecord o) secondCells c
+      ≡ totalOf (flatMap (channelSamples c) held)
   channel-decoded c p q = total-decoded o c held (second-sound L sound s R) secondCells (channel-holds c p q)
 
   pub second-decoded : secondShown o secondCells ≡ ledgerSecond o L s
@@ -137,7 +179,9 @@ module _ (o : Opening) (L : Ledger) (sound : SoundLedger o L) (s : ℕ) where
         records = records t;
         origins = origins t;
         errors = errors t;
-        channels = channel-decoded 1 (omega arith) (omega arith) t ∷ channel-decoded 2 (omega arith) (omega arith) t ∷ channel-decoded 3 (omega arith) (omega arith) t ∷ channel-decoded 4 (omega arith) (omega arith) t ∷ [];
+        channels =
+            channel-decoded 1 (omega arith) (omega arith) t ∷ channel-decoded 2 (omega arith) (omega arith) t
+            ∷ channel-decoded 3 (omega arith) (omega arith) t ∷ channel-decoded 4 (omega arith) (omega arith) t ∷ [];
         kept = eqb (records t) (fullCount o) && leb 1 (origins t) && eqb (errors t) 0;
       }
     where

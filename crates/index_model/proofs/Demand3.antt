@@ -24,7 +24,8 @@ pub record Demand3 (o : Opening) (c : Buffers) (calls : List Call) : Type 0 wher
   pub answers : replies o calls c ≡ ledgerReplies o calls noRecords
   -- after the list, the totals and verdict that the cells of each second of the window say are those worked out from nothing
   -- over the records then held
-  pub seconds : (s : ℕ) → inWindow o s ≡ true → secondShown o (blockAt (after o calls c .seconds) (placeOf o s)) ≡ ledgerSecond o (ledgerAfter o calls noRecords) s
+  pub seconds : (s : ℕ) → inWindow o s ≡ true → secondShown o (blockAt (after o calls c .seconds) (placeOf o s))
+      ≡ ledgerSecond o (ledgerAfter o calls noRecords) s
   -- and a test would say yes
   pub consistent : isConsistent o (after o calls c) ≡ true
   -- every accepted put or take-out altered only its record's row and the seconds it left and joined; every other call, nothing
@@ -45,7 +46,8 @@ module _ (pattern : List ℕ) (F C R : ℕ) (c : Buffers) (none : openRefusal pa
   fits = fine pattern F C R c none
 
   pub ended : Regular (openingOf pattern F C R) (ledgerAfter (openingOf pattern F C R) calls noRecords)
-      × Agree (openingOf pattern F C R) (ledgerAfter (openingOf pattern F C R) calls noRecords) (after (openingOf pattern F C R) calls (opened pattern F C R c))
+      × Agree (openingOf pattern F C R) (ledgerAfter (openingOf pattern F C R) calls noRecords)
+      (after (openingOf pattern F C R) calls (opened pattern F C R c))
   ended = after-agrees o fits calls noRecords start (regular-empty o) (opened-agrees pattern F C R c none)
 
   pub demand3 : Demand3 (openAnswer pattern F C R c .value) (opened pattern F C R c) calls

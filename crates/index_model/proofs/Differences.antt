@@ -15,11 +15,13 @@ use Rattle.index_model.specs.Cells.{natOf}
 -- a difference by its sign
 pub sub-pos : (a b p : ℕ) → a ≡ b + p → subℕ a b ≡ pos p
 sub-pos a b p e =
-    (λ t. cond (le-ltb a b (omega (arith, e)) t) (negsuc (b - suc a)) (pos (a - b))) ∙ ap pos (let z : a - b ≡ p = omega (arith, e) in z)
+    (λ t. cond (le-ltb a b (omega (arith, e)) t) (negsuc (b - suc a)) (pos (a - b)))
+    ∙ ap pos (let z : a - b ≡ p = omega (arith, e) in z)
 
 pub sub-neg : (a b q : ℕ) → b ≡ a + suc q → subℕ a b ≡ negsuc q
 sub-neg a b q e =
-    (λ t. cond (lt-ltb a b (omega (arith, e)) t) (negsuc (b - suc a)) (pos (a - b))) ∙ ap negsuc (let z : b - suc a ≡ q = omega (arith, e) in z)
+    (λ t. cond (lt-ltb a b (omega (arith, e)) t) (negsuc (b - suc a)) (pos (a - b)))
+    ∙ ap negsuc (let z : b - suc a ≡ q = omega (arith, e) in z)
 
 -- equal differences
 pub sub-same : (a b c d : ℕ) → a + d ≡ c + b → subℕ a b ≡ subℕ c d
@@ -32,12 +34,16 @@ pub sub-add : (a b c d : ℕ) → subℕ a b +ℤ subℕ c d ≡ subℕ (a + c) 
 sub-add a b c d =
     ⊎-elim
     (λ p. ⊎-elim
-    (λ q. (λ t. sub-pos a b (a - b) (omega arith) t +ℤ sub-pos c d (c - d) (omega arith) t) ∙ sym (sub-pos (a + c) (b + d) (a - b + (c - d)) (omega arith)))
-    (λ q. (λ t. sub-pos a b (a - b) (omega arith) t +ℤ sub-neg c d (d - suc c) (omega arith) t) ∙ sub-same (a - b) (suc (d - suc c)) (a + c) (b + d) (omega arith))
+    (λ q. (λ t. sub-pos a b (a - b) (omega arith) t +ℤ sub-pos c d (c - d) (omega arith) t)
+    ∙ sym (sub-pos (a + c) (b + d) (a - b + (c - d)) (omega arith)))
+    (λ q. (λ t. sub-pos a b (a - b) (omega arith) t +ℤ sub-neg c d (d - suc c) (omega arith) t)
+    ∙ sub-same (a - b) (suc (d - suc c)) (a + c) (b + d) (omega arith))
     (le-or-lt d c))
     (λ p. ⊎-elim
-    (λ q. (λ t. sub-neg a b (b - suc a) (omega arith) t +ℤ sub-pos c d (c - d) (omega arith) t) ∙ sub-same (c - d) (suc (b - suc a)) (a + c) (b + d) (omega arith))
-    (λ q. (λ t. sub-neg a b (b - suc a) (omega arith) t +ℤ sub-neg c d (d - suc c) (omega arith) t) ∙ sym (sub-neg (a + c) (b + d) (suc (b - suc a + (d - suc c))) (omega arith)))
+    (λ q. (λ t. sub-neg a b (b - suc a) (omega arith) t +ℤ sub-pos c d (c - d) (omega arith) t)
+    ∙ sub-same (c - d) (suc (b - suc a)) (a + c) (b + d) (omega arith))
+    (λ q. (λ t. sub-neg a b (b - suc a) (omega arith) t +ℤ sub-neg c d (d - suc c) (omega arith) t)
+    ∙ sym (sub-neg (a + c) (b + d) (suc (b - suc a + (d - suc c))) (omega arith)))
     (le-or-lt d c))
     (le-or-lt b a)
 
@@ -49,7 +55,9 @@ sub-zero : (a : ℕ) → pos a ≡ subℕ a 0
 sub-zero a = sym (sub-pos a 0 a (omega arith))
 
 neg-sub : (a b : ℕ) → negℤ (subℕ a b) ≡ subℕ b a
-neg-sub a b = ⊎-elim (λ p. ap negℤ (sub-pos a b (a - b) (omega arith)) ∙ down (a - b) (omega arith)) (λ p. ap negℤ (sub-neg a b (b - suc a) (omega arith)) ∙ sym (sub-pos b a (suc (b - suc a)) (omega arith))) (le-or-lt b a)
+neg-sub a b =
+    ⊎-elim (λ p. ap negℤ (sub-pos a b (a - b) (omega arith)) ∙ down (a - b) (omega arith))
+    (λ p. ap negℤ (sub-neg a b (b - suc a) (omega arith)) ∙ sym (sub-pos b a (suc (b - suc a)) (omega arith))) (le-or-lt b a)
   where
     down : (d : ℕ) → a ≡ b + d → negℤ (pos d) ≡ subℕ b a
     down zero e = sym (sub-pos b a 0 (omega (arith, e)))
@@ -67,19 +75,24 @@ nat-minus a b =
 -- ## order
 
 same-test : (a b c d : ℕ) → (a < b → c < d) → (b ≤ a → d ≤ c) → ltb a b ≡ ltb c d
-same-test a b c d f g = ⊎-elim (λ p. le-ltb a b p ∙ sym (le-ltb c d (g p))) (λ p. lt-ltb a b p ∙ sym (lt-ltb c d (f p))) (le-or-lt b a)
+same-test a b c d f g =
+    ⊎-elim (λ p. le-ltb a b p ∙ sym (le-ltb c d (g p))) (λ p. lt-ltb a b p ∙ sym (lt-ltb c d (f p))) (le-or-lt b a)
 
 -- of two differences the lesser is that with the lesser first number, where the second numbers are one
 less-first : (a b k : ℕ) → ltZ (subℕ a k) (subℕ b k) ≡ ltb a b
 less-first a b k =
     ⊎-elim
     (λ p. ⊎-elim
-    (λ q. (λ t. ltZ (sub-pos a k (a - k) (omega arith) t) (sub-pos b k (b - k) (omega arith) t)) ∙ same-test (a - k) (b - k) a b (λ h. omega arith) (λ h. omega arith))
-    (λ q. (λ t. ltZ (sub-pos a k (a - k) (omega arith) t) (sub-neg b k (k - suc b) (omega arith) t)) ∙ sym (le-ltb a b (omega arith)))
+    (λ q. (λ t. ltZ (sub-pos a k (a - k) (omega arith) t) (sub-pos b k (b - k) (omega arith) t))
+    ∙ same-test (a - k) (b - k) a b (λ h. omega arith) (λ h. omega arith))
+    (λ q. (λ t. ltZ (sub-pos a k (a - k) (omega arith) t) (sub-neg b k (k - suc b) (omega arith) t))
+    ∙ sym (le-ltb a b (omega arith)))
     (le-or-lt k b))
     (λ p. ⊎-elim
-    (λ q. (λ t. ltZ (sub-neg a k (k - suc a) (omega arith) t) (sub-pos b k (b - k) (omega arith) t)) ∙ sym (lt-ltb a b (omega arith)))
-    (λ q. (λ t. ltZ (sub-neg a k (k - suc a) (omega arith) t) (sub-neg b k (k - suc b) (omega arith) t)) ∙ same-test (k - suc b) (k - suc a) a b (λ h. omega arith) (λ h. omega arith))
+    (λ q. (λ t. ltZ (sub-neg a k (k - suc a) (omega arith) t) (sub-pos b k (b - k) (omega arith) t))
+    ∙ sym (lt-ltb a b (omega arith)))
+    (λ q. (λ t. ltZ (sub-neg a k (k - suc a) (omega arith) t) (sub-neg b k (k - suc b) (omega arith) t))
+    ∙ same-test (k - suc b) (k - suc a) a b (λ h. omega arith) (λ h. omega arith))
     (le-or-lt k b))
     (le-or-lt k a)
 

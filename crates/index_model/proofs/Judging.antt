@@ -21,8 +21,32 @@ use Rattle.index_model.specs.Second.{noSecond}
 use Rattle.index_model.specs.Cells.{width, cell, blockAt, flag, rowWithin, cellFrom}
 use Rattle.index_model.specs.Buffers.{Buffers}
 use Rattle.index_model.specs.Opening.{limitsWrong, heldWrong, openingRefusal, otherReel, isOutside, inWindow, placeOf}
-use Rattle.index_model.specs.Calls.{fullCount, isFull, insertRefusal, removeRefusal, queryRefusal, queryAnswer, secondShown, rowsInside, cellsRight, secondsRight, isConsistent, consistencyAnswer}
-use Rattle.index_model.specs.Ledger.{Ledger, withEntry, isHeld, recordsOf, perSecond, ledgerFull, ledgerInsert, ledgerRemove, ledgerQuery, ledgerSecond}
+use Rattle.index_model.specs.Calls.{
+  fullCount,
+  isFull,
+  insertRefusal,
+  removeRefusal,
+  queryRefusal,
+  queryAnswer,
+  secondShown,
+  rowsInside,
+  cellsRight,
+  secondsRight,
+  isConsistent,
+  consistencyAnswer,
+}
+use Rattle.index_model.specs.Ledger.{
+  Ledger,
+  withEntry,
+  isHeld,
+  recordsOf,
+  perSecond,
+  ledgerFull,
+  ledgerInsert,
+  ledgerRemove,
+  ledgerQuery,
+  ledgerSecond,
+}
 use Rattle.index_model.proofs.Blocks.{block-cells}
 use Rattle.index_model.proofs.Rows.{rowFor, row-records, row-second}
 use Rattle.index_model.proofs.Totals.{share, cellTotal, share-count, passed}
@@ -33,7 +57,8 @@ use Rattle.index_model.proofs.Limits.{in-window, in-range, same-rate, o
 use Rattle.index_model.proofs.Agreement.{Regular, Agree, few-fit, count-own, regular-without, old-row, old-within}
 
 leb-same : (a b c d : ℕ) → (a ≤ b → c ≤ d) → (b < a → d < c) → leb a b ≡ leb c d
-leb-same a b c d f g = ⊎-elim (λ p. le-leb a b p ∙ sym (le-leb c d (f p))) (λ p. lt-leb a b p ∙ sym (lt-leb c d (g p))) (le-or-lt a b)
+leb-same a b c d f g =
+    ⊎-elim (λ p. le-leb a b p ∙ sym (le-leb c d (f p))) (λ p. lt-leb a b p ∙ sym (lt-leb c d (g p))) (le-or-lt a b)
 
 -- ## by the ledger alone
 
@@ -80,7 +105,8 @@ module _ (o : Opening) (L : Ledger) where
 
 -- ## by the cells
 
-module _ (o : Opening) (fine : limitsWrong o || heldWrong o ≡ false) (L : Ledger) (c : Buffers) (regular : Regular o L) (agree : Agree o L c) where
+module _ (o : Opening) (fine : limitsWrong o || heldWrong o ≡ false) (L : Ledger) (c : Buffers) (regular : Regular o L)
+    (agree : Agree o L c) where
   abbrev F : ℕ
   F = o .«first_second»
 
@@ -94,7 +120,8 @@ module _ (o : Opening) (fine : limitsWrong o || heldWrong o ≡ false) (L : Ledg
   opening-accepted = opening-fine o c fine (agree .rows-long) (agree .seconds-long)
 
   -- the records of other numbers in a second
-  pub others-count : (n s : ℕ) → 0 < n → n ≤ R → length (recordsOf (withEntry L n none) s R) ≡ cellTotal (withEntry L n none) s 0 R
+  pub others-count : (n s : ℕ) → 0 < n → n ≤ R → length (recordsOf (withEntry L n none) s R)
+      ≡ cellTotal (withEntry L n none) s 0 R
   others-count n s p q = sym (measured (measures-records o) (withEntry L n none) (regular-without o L regular n p q .sound) s R)
 
   full-is : (n s : ℕ) → isOutside o n ≡ false → not (inWindow o s) ≡ false → isFull o (n - 1) s c ≡ ledgerFull o L n s
@@ -142,7 +169,8 @@ module _ (o : Opening) (fine : limitsWrong o || heldWrong o ≡ false) (L : Ledg
       by-entry none = refl
       by-entry (some b) = λ t. eqb (row-records b t) 0
 
-      by-test : (t : Bool) → isOutside o n ≡ t → first (16 when t ∷ 19 when eqb (cell (c .rows) (n - 1) 0) 0 ∷ []) ≡ first (16 when t ∷ 19 when not (isHeld (L n)) ∷ [])
+      by-test : (t : Bool) → isOutside o n ≡ t → first (16 when t ∷ 19 when eqb (cell (c .rows) (n - 1) 0) 0 ∷ [])
+          ≡ first (16 when t ∷ 19 when not (isHeld (L n)) ∷ [])
       by-test true et = refl
       by-test false et =
           let range = in-range o n et in
@@ -170,7 +198,9 @@ module _ (o : Opening) (fine : limitsWrong o || heldWrong o ≡ false) (L : Ledg
       ap (λ (x : ℕ). unless x noSecond (secondShown o (blockAt (c .seconds) (placeOf o s)))) (then-none _ _ opening-accepted)
       ∙ by-test (inWindow o s) refl
     where
-      by-test : (t : Bool) → inWindow o s ≡ t → unless (first (17 when not t ∷ [])) noSecond (secondShown o (blockAt (c .seconds) (placeOf o s))) ≡ unless (first (17 when not t ∷ [])) noSecond (ledgerSecond o L s)
+      by-test : (t : Bool) → inWindow o s ≡ t
+          → unless (first (17 when not t ∷ [])) noSecond (secondShown o (blockAt (c .seconds) (placeOf o s)))
+          ≡ unless (first (17 when not t ∷ [])) noSecond (ledgerSecond o L s)
       by-test true e = λ i. accepted (shown-is s e i)
       by-test false e = refl
 
@@ -180,10 +210,13 @@ module _ (o : Opening) (fine : limitsWrong o || heldWrong o ≡ false) (L : Ledg
   unfolding rowsInside
   rows-inside zero q = refl
   rows-inside (suc m) q =
-      (λ t. rows-inside m (omega arith) t && (eqb (agree .rows-are m (omega arith) 0 (omega arith) t) 0 || inWindow o (agree .rows-are m (omega arith) 3 (omega arith) t)))
+      (λ t. rows-inside m (omega arith) t
+      && (eqb (agree .rows-are m (omega arith) 0 (omega arith) t) 0
+      || inWindow o (agree .rows-are m (omega arith) 3 (omega arith) t)))
       ∙ by-entry (L (suc m)) (regular .sound (suc m))
     where
-      by-entry : (held : Option (List ℕ)) → ((b : List ℕ) → held ≡ some b → Sound o b) → (eqb (getD (rowFor held) 0 0) 0 || inWindow o (getD (rowFor held) 3 0)) ≡ true
+      by-entry : (held : Option (List ℕ)) → ((b : List ℕ) → held ≡ some b → Sound o b)
+          → (eqb (getD (rowFor held) 0 0) 0 || inWindow o (getD (rowFor held) 3 0)) ≡ true
       by-entry none h = refl
       by-entry (some b) h = (λ t. eqb (row-records b t) 0 || inWindow o (row-second b t)) ∙ h b refl .window
 
@@ -193,7 +226,8 @@ module _ (o : Opening) (fine : limitsWrong o || heldWrong o ≡ false) (L : Ledg
   cells-right k hk (suc j) q =
       (λ t. cells-right k hk j (omega arith) t && eqb (cell (c .seconds) k j) (cellFrom (c .rows) (F + k) j R))
       ∙ eq-eqb (cell (c .seconds) k j) (cellFrom (c .rows) (F + k) j R)
-      (agree .seconds-are k hk j (omega arith) ∙ sym (passed R L (c .rows) (agree .rows-are) (F + k) j (omega arith) R (omega arith) (few-fit o L regular (F + k) j)))
+      (agree .seconds-are k hk j (omega arith)
+      ∙ sym (passed R L (c .rows) (agree .rows-are) (F + k) j (omega arith) R (omega arith) (few-fit o L regular (F + k) j)))
 
   seconds-right : (m : ℕ) → m ≤ C → secondsRight o c m ≡ true
   unfolding secondsRight

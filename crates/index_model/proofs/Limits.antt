@@ -19,7 +19,17 @@ use Rattle.index_model.specs.declared.Opening.{Opening}
 use Rattle.index_model.specs.Cells.{width}
 use Rattle.index_model.specs.Buffers.{Buffers}
 use Rattle.index_model.specs.Limits.{WithinLimits}
-use Rattle.index_model.specs.Opening.{highestLimit, daySeconds, limitsWrong, heldWrong, tooSmall, openingRefusal, otherReel, isOutside, inWindow}
+use Rattle.index_model.specs.Opening.{
+  highestLimit,
+  daySeconds,
+  limitsWrong,
+  heldWrong,
+  tooSmall,
+  openingRefusal,
+  otherReel,
+  isOutside,
+  inWindow,
+}
 use Rattle.index_model.specs.Calls.{fullCount}
 
 module _ (o : Opening) where
@@ -34,8 +44,11 @@ module _ (o : Opening) where
 
   pub in-window : (s : ℕ) → inWindow o s ≡ true → (o .«first_second» ≤ s) × (s < o .«first_second» + o .«second_count»)
   unfolding inWindow
-  in-window s e =
-      (leb→le F s (left (leb F s) (ltb s (F + C)) (held (inWindow o s) e)), ltb→lt s (F + C) (right (leb F s) (ltb s (F + C)) (held (inWindow o s) e)))
+  in-window s e = (
+    leb→le F s (left (leb F s) (ltb s (F + C)) (held (inWindow o s) e)),
+    ltb→lt s (F + C)
+        (right (leb F s) (ltb s (F + C)) (held (inWindow o s) e)),
+  )
 
   pub in-range : (n : ℕ) → isOutside o n ≡ false → (0 < n) × (n ≤ o .«highest_number»)
   unfolding isOutside
@@ -52,7 +65,8 @@ module _ (o : Opening) where
 
   module _ (c : Buffers) where
     -- buffers that 14 does not refuse have the cells
-    pub enough : tooSmall o c ≡ false → (width * o .«highest_number» ≤ length (c .rows)) × (width * o .«second_count» ≤ length (c .seconds))
+    pub enough : tooSmall o c ≡ false → (width * o .«highest_number» ≤ length (c .rows))
+        × (width * o .«second_count» ≤ length (c .seconds))
     unfolding tooSmall
     enough e =
         let t = or-false (ltb (length (c .rows)) (width * R)) (ltb (length (c .seconds)) (width * C)) e in
@@ -76,7 +90,8 @@ module _ (o : Opening) where
         }
 
     -- an opening within its limits is refused by no call whose buffers are long enough
-    pub opening-fine : limitsWrong o || heldWrong o ≡ false → width * o .«highest_number» ≤ length (c .rows) → width * o .«second_count» ≤ length (c .seconds) → openingRefusal o c ≡ 0
+    pub opening-fine : limitsWrong o || heldWrong o ≡ false → width * o .«highest_number» ≤ length (c .rows)
+        → width * o .«second_count» ≤ length (c .seconds) → openingRefusal o c ≡ 0
     unfolding openingRefusal tooSmall
     opening-fine e p q =
         λ t. cond (e t) 13 (cond (le-ltb (length (c .rows)) (width * R) p t || le-ltb (length (c .seconds)) (width * C) q t) 14 0)
@@ -96,7 +111,8 @@ unfolding lineIn mostIn
 line-most [] hz t = omega arith
 line-most (l ∷ ls) hz t = by-test (eqb (l .hz) hz) (line-most ls hz (right (leb (recordsPerSecond l) mostRecords) (mostIn ls) t))
   where
-    by-test : (b : Bool) → recordsPerSecond (lineIn ls hz) ≤ mostRecords → recordsPerSecond (cond b l (lineIn ls hz)) ≤ mostRecords
+    by-test : (b : Bool) → recordsPerSecond (lineIn ls hz) ≤ mostRecords
+        → recordsPerSecond (cond b l (lineIn ls hz)) ≤ mostRecords
     by-test true r = leb→le (recordsPerSecond l) mostRecords (left (leb (recordsPerSecond l) mostRecords) (mostIn ls) t)
     by-test false r = r
 

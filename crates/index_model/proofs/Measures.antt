@@ -60,7 +60,8 @@ count-append test [] t = omega arith
 count-append test (b ∷ r) t = omega (arith, count-append test r t)
 
 -- a flag that the row has in a cell that is a sum
-measures-flag : (o : Opening) (j : ℕ) (test : List ℕ → Bool) → isGreatest j ≡ false → ((b : List ℕ) → getD (rowOf b) j 0 ≡ flag (test b)) → Measures o j (countOf test)
+measures-flag : (o : Opening) (j : ℕ) (test : List ℕ → Bool) → isGreatest j ≡ false
+    → ((b : List ℕ) → getD (rowOf b) j 0 ≡ flag (test b)) → Measures o j (countOf test)
 unfolding countOf
 measures-flag o j test g is =
     record {
@@ -90,7 +91,9 @@ flat-one f b = append-nil (f b)
 
 module _ (o : Opening) (c : ℕ) (p : 1 ≤ c) (q : c ≤ 4) where
   -- a code of samples that cell i of the channel's four holds
-  measures-code : (i : ℕ) → i < 4 → (code : List ℤ → ℕ) → code [] ≡ 0 → ((l k : List ℤ) → code (l ++ k) ≡ plainBy (ltb 1 i) (code l) (code k)) → ((l : List ℤ) → getD (codes l) i 0 ≡ code l) → Measures o (channelCell c i) (λ (r : List (List ℕ)). code (flatMap (channelSamples c) r))
+  measures-code : (i : ℕ) → i < 4 → (code : List ℤ → ℕ) → code [] ≡ 0
+      → ((l k : List ℤ) → code (l ++ k) ≡ plainBy (ltb 1 i) (code l) (code k)) → ((l : List ℤ) → getD (codes l) i 0 ≡ code l)
+      → Measures o (channelCell c i) (λ (r : List (List ℕ)). code (flatMap (channelSamples c) r))
   unfolding flatMap
   measures-code i h code zeroes joined is =
       record {
@@ -99,8 +102,10 @@ module _ (o : Opening) (c : ℕ) (p : 1 ≤ c) (q : c ≤ 4) where
             λ r t.
             ap code (flat-append (channelSamples c) r t)
             ∙ joined (flatMap (channelSamples c) r) (flatMap (channelSamples c) t)
-            ∙ sym (λ k. plainBy (channel-kind c i p h k) (code (flatMap (channelSamples c) r)) (code (flatMap (channelSamples c) t)));
-        single = λ b s. row-codes b (s .accepted) c i p q h ∙ is (channelSamples c b) ∙ ap code (sym (flat-one (channelSamples c) b));
+            ∙ sym (λ k. plainBy (channel-kind c i p h k) (code (flatMap (channelSamples c) r))
+            (code (flatMap (channelSamples c) t)));
+        single =
+            λ b s. row-codes b (s .accepted) c i p q h ∙ is (channelSamples c b) ∙ ap code (sym (flat-one (channelSamples c) b));
       }
 
   pub measures-sum : Measures o (channelCell c 0) (λ (r : List (List ℕ)). sumCode (flatMap (channelSamples c) r))
@@ -115,6 +120,7 @@ module _ (o : Opening) (c : ℕ) (p : 1 ≤ c) (q : c ≤ 4) where
   unfolding plainBy topCode
   measures-least = measures-code 2 (omega arith) (topCode leastCode) refl (top-append leastCode) (λ l. refl)
 
-  pub measures-greatest : Measures o (channelCell c 3) (λ (r : List (List ℕ)). topCode greatestCode (flatMap (channelSamples c) r))
+  pub measures-greatest : Measures o (channelCell c 3)
+      (λ (r : List (List ℕ)). topCode greatestCode (flatMap (channelSamples c) r))
   unfolding plainBy topCode
   measures-greatest = measures-code 3 (omega arith) (topCode greatestCode) refl (top-append greatestCode) (λ l. refl)

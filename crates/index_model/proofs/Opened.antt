@@ -21,7 +21,17 @@ use Rattle.answers.proofs.Refusals.{noCheck, none-applies, then-zero, unless-no
 use Rattle.index_model.specs.declared.Opening.{Opening}
 use Rattle.index_model.specs.Cells.{width, cell, isGreatest}
 use Rattle.index_model.specs.Buffers.{Buffers}
-use Rattle.index_model.specs.Opening.{limitsWrong, heldWrong, tooSmall, openingOf, noOpening, cleared, openRefusal, openAnswer, opened}
+use Rattle.index_model.specs.Opening.{
+  limitsWrong,
+  heldWrong,
+  tooSmall,
+  openingOf,
+  noOpening,
+  cleared,
+  openRefusal,
+  openAnswer,
+  opened,
+}
 use Rattle.index_model.specs.Ledger.{noRecords}
 use Rattle.index_model.proofs.Merges.{plainBy, plain-none}
 use Rattle.index_model.proofs.Rows.{no-row}
@@ -85,7 +95,8 @@ module _ (pattern : List ℕ) (F C R : ℕ) (c : Buffers) (e : openRefusal patte
         seconds-long = omega (arith, length-over (c .seconds) (λ (k : ℕ). 0) (width * C) (long .1), long .1);
         rows-are = λ i hi j hj. over-low (c .rows) (λ (k : ℕ). 0) 0 (width * R) (width * i + j) (omega arith) ∙ sym (no-row j hj);
         seconds-are =
-            λ k hk j hj. over-low (c .seconds) (λ (k : ℕ). 0) 0 (width * C) (width * k + j) (omega arith) ∙ sym (nothing-held (F + k) j R);
+            λ k hk j hj. over-low (c .seconds) (λ (k : ℕ). 0) 0 (width * C) (width * k + j) (omega arith)
+            ∙ sym (nothing-held (F + k) j R);
       }
 
   pub opened-agrees : Agree o noRecords (opened pattern F C R c)

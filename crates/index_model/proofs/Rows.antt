@@ -17,7 +17,17 @@ use Rattle.totals.specs.declared.Total.{Total}
 use Rattle.totals.specs.Total.{noTotal, totalOf, totalsOf}
 use Rattle.index_model.specs.Records.{secondOf, hasOrigin, hasError}
 use Rattle.record.specs.Stretch.{stretchOf}
-use Rattle.index_model.specs.Cells.{width, channelCell, samplesIn, channelCells, allChannelCells, flag, rowOf, noRow, isGreatest}
+use Rattle.index_model.specs.Cells.{
+  width,
+  channelCell,
+  samplesIn,
+  channelCells,
+  allChannelCells,
+  flag,
+  rowOf,
+  noRow,
+  isGreatest,
+}
 
 -- the row of what a number has
 abbrev pub rowFor : Option (List ℕ) → List ℕ
@@ -46,13 +56,15 @@ module _ (b : List ℕ) where
   row-second = refl
 
 -- the four cells of one channel among those of all
-at-channel : (n : ℕ) (ts : List Total) (k i : ℕ) → k < length ts → i < 4 → getD (allChannelCells n ts) (4 * k + i) 0 ≡ getD (channelCells n (getD ts k noTotal)) i 0
+at-channel : (n : ℕ) (ts : List Total) (k i : ℕ) → k < length ts → i < 4 → getD (allChannelCells n ts) (4 * k + i) 0
+    ≡ getD (channelCells n (getD ts k noTotal)) i 0
 at-channel n [] k i h q = absurd (let z : ⊥ = omega arith in z)
 at-channel n (t ∷ ts) zero i h q =
     ap (λ (a : ℕ). getD (channelCells n t ++ allChannelCells n ts) a 0) (let z : 4 * 0 + i ≡ i = omega arith in z)
     ∙ List·getD-append (channelCells n t) (allChannelCells n ts) 0 i q
 at-channel n (t ∷ ts) (suc k) i h q =
-    ap (λ (a : ℕ). getD (channelCells n t ++ allChannelCells n ts) a 0) (let z : 4 * suc k + i ≡ 4 + (4 * k + i) = omega arith in z)
+    ap (λ (a : ℕ). getD (channelCells n t ++ allChannelCells n ts) a 0)
+    (let z : 4 * suc k + i ≡ 4 + (4 * k + i) = omega arith in z)
     ∙ getD-append-add (channelCells n t) (allChannelCells n ts) (4 * k + i) 0
     ∙ at-channel n ts k i (omega arith) q
 
@@ -64,19 +76,23 @@ of-four f d (suc (suc (suc zero))) h = refl
 of-four f d (suc (suc (suc (suc k)))) h = absurd (let z : ⊥ = omega arith in z)
 
 -- the four cells of a channel (1 to 4)
-pub row-channel : (b : List ℕ) (c i : ℕ) → 1 ≤ c → c ≤ 4 → i < 4 → getD (rowOf b) (channelCell c i) 0 ≡ getD (channelCells (samplesIn (stretchOf b)) (totalOf (samplesOf (stretchOf b) c (samplesIn (stretchOf b))))) i 0
+pub row-channel : (b : List ℕ) (c i : ℕ) → 1 ≤ c → c ≤ 4 → i < 4
+    → getD (rowOf b) (channelCell c i) 0
+    ≡ getD (channelCells (samplesIn (stretchOf b)) (totalOf (samplesOf (stretchOf b) c (samplesIn (stretchOf b))))) i 0
 unfolding rowOf totalsOf
 row-channel b zero i p q r = absurd (let z : ⊥ = omega arith in z)
 row-channel b (suc k) i p q r =
     ap (λ (a : ℕ). getD (rowOf b) a 0) (let z : 4 * suc k + i ≡ suc (suc (suc (suc (4 * k + i)))) = omega arith in z)
     ∙ at-channel (samplesIn (stretchOf b)) (totalsOf (stretchOf b) (samplesIn (stretchOf b))) k i (omega arith) r
-    ∙ ap (λ (t : Total). getD (channelCells (samplesIn (stretchOf b)) t) i 0) (of-four (λ (c : ℕ). totalOf (samplesOf (stretchOf b) c (samplesIn (stretchOf b)))) noTotal k (omega arith))
+    ∙ ap (λ (t : Total). getD (channelCells (samplesIn (stretchOf b)) t) i 0)
+    (of-four (λ (c : ℕ). totalOf (samplesOf (stretchOf b) c (samplesIn (stretchOf b)))) noTotal k (omega arith))
 
 -- the first two of a channel's four are sums, the others hold the greatest
 pub channel-kind : (c i : ℕ) → 1 ≤ c → i < 4 → isGreatest (channelCell c i) ≡ ltb 1 i
 unfolding isGreatest
 channel-kind c i p q =
-    (λ t. ltb 1 ((let z : (channelCell c i) % 4 ≡ i = omega arith in z) t) && not (ne-eqb (channelCell c i) 2 (λ z. omega (arith, z)) t))
+    (λ t. ltb 1 ((let z : (channelCell c i) % 4 ≡ i = omega arith in z) t)
+    && not (ne-eqb (channelCell c i) 2 (λ z. omega (arith, z)) t))
     ∙ and-true (ltb 1 i)
 
 -- a number that is not held has 0 in every cell

@@ -13,7 +13,19 @@ use Rattle.lists.specs.Fill.{tab}
 use Rattle.lists.proofs.Fill.{length-tab, getD-tab, tab-ext}
 use Rattle.index_model.specs.declared.Opening.{Opening}
 use Rattle.index_model.specs.Records.{secondOf}
-use Rattle.index_model.specs.Cells.{width, cell, blockAt, withBlock, noRow, merge, merged, rowWithin, mergeIf, cellFrom, secondFrom}
+use Rattle.index_model.specs.Cells.{
+  width,
+  cell,
+  blockAt,
+  withBlock,
+  noRow,
+  merge,
+  merged,
+  rowWithin,
+  mergeIf,
+  cellFrom,
+  secondFrom,
+}
 use Rattle.index_model.specs.Opening.{inWindow, placeOf}
 use Rattle.index_model.specs.Calls.{leave, join}
 use Rattle.index_model.specs.History.{isOf}
@@ -33,7 +45,8 @@ pub length-merged : (second row : List ℕ) → length (merged second row) ≡ w
 unfolding merged
 length-merged second row = length-tab (λ (j : ℕ). merge j (getD second j 0) (getD row j 0)) 0 width
 
-pub merged-at : (second row : List ℕ) (j : ℕ) → j < width → getD (merged second row) j 0 ≡ merge j (getD second j 0) (getD row j 0)
+pub merged-at : (second row : List ℕ) (j : ℕ) → j < width
+    → getD (merged second row) j 0 ≡ merge j (getD second j 0) (getD row j 0)
 unfolding merged
 merged-at second row j h = getD-tab (λ (j : ℕ). merge j (getD second j 0) (getD row j 0)) width j 0 h
 
@@ -42,15 +55,19 @@ pub second-none : (rows : List ℕ) (s : ℕ) → secondFrom rows s 0 ≡ noRow
 unfolding secondFrom cellFrom
 second-none rows s = refl
 
-pub second-next : (rows : List ℕ) (s i : ℕ) → secondFrom rows s (suc i) ≡ cond (rowWithin rows i s) (merged (secondFrom rows s i) (blockAt rows i)) (secondFrom rows s i)
+pub second-next : (rows : List ℕ) (s i : ℕ)
+    → secondFrom rows s (suc i) ≡ cond (rowWithin rows i s) (merged (secondFrom rows s i) (blockAt rows i)) (secondFrom rows s i)
 unfolding secondFrom cellFrom
 second-next rows s i = by-test (rowWithin rows i s)
   where
-    by-test : (t : Bool) → tab (λ (j : ℕ). mergeIf t j (cellFrom rows s j i) (cell rows i j)) 0 width ≡ cond t (merged (secondFrom rows s i) (blockAt rows i)) (secondFrom rows s i)
+    by-test : (t : Bool) → tab (λ (j : ℕ). mergeIf t j (cellFrom rows s j i) (cell rows i j)) 0 width
+        ≡ cond t (merged (secondFrom rows s i) (blockAt rows i)) (secondFrom rows s i)
     by-test true =
         sym
-        (tab-ext (λ (j : ℕ). merge j (cellFrom rows s j i) (cell rows i j)) width 0 (merged (secondFrom rows s i) (blockAt rows i)) (length-merged (secondFrom rows s i) (blockAt rows i))
-        (λ j h. merged-at (secondFrom rows s i) (blockAt rows i) j h ∙ (λ t. merge j (second-at rows s i j h t) (block-at rows i j h t))))
+        (tab-ext (λ (j : ℕ). merge j (cellFrom rows s j i) (cell rows i j)) width 0
+        (merged (secondFrom rows s i) (blockAt rows i)) (length-merged (secondFrom rows s i) (blockAt rows i))
+        (λ j h. merged-at (secondFrom rows s i) (blockAt rows i) j h
+        ∙ (λ t. merge j (second-at rows s i j h t) (block-at rows i j h t))))
     by-test false = refl
 
 module _ (o : Opening) where
@@ -69,29 +86,36 @@ module _ (o : Opening) where
   leaveFor rows none seconds = seconds
   leaveFor rows (some b) seconds = withBlock seconds (placeOf o (secondOf b)) (secondFrom rows (secondOf b) (o .«highest_number»))
 
-  pub leave-is : (rows : List ℕ) (held : Option (List ℕ)) (seconds : List ℕ) → Inside held → leave o rows (getD (rowFor held) 0 0) (getD (rowFor held) 3 0) seconds ≡ leaveFor rows held seconds
+  pub leave-is : (rows : List ℕ) (held : Option (List ℕ)) (seconds : List ℕ) → Inside held
+      → leave o rows (getD (rowFor held) 0 0) (getD (rowFor held) 3 0) seconds ≡ leaveFor rows held seconds
   unfolding leave
   leave-is rows none seconds h = refl
   leave-is rows (some b) seconds h =
       (λ t. leave o rows (row-records b t) (row-second b t) seconds)
-      ∙ (λ t. cond (h b refl t) (withBlock seconds (placeOf o (secondOf b)) (secondFrom rows (secondOf b) (o .«highest_number»))) seconds)
+      ∙ (λ t. cond (h b refl t)
+      (withBlock seconds (placeOf o (secondOf b)) (secondFrom rows (secondOf b) (o .«highest_number»))) seconds)
 
-  fits : (s : ℕ) (seconds : List ℕ) → inWindow o s ≡ true → width * C ≤ length seconds → width * placeOf o s + width ≤ length seconds
+  fits : (s : ℕ) (seconds : List ℕ) → inWindow o s ≡ true → width * C ≤ length seconds
+      → width * placeOf o s + width ≤ length seconds
   fits s seconds e long = let w = in-window o s e in omega (arith, w .0, w .1)
 
   -- a second's place is that of a cell only if it is that cell's second
   pub other-place : (s m : ℕ) → inWindow o s ≡ true → eqb s (F + m / width) ≡ false → m / width ≡ placeOf o s → ⊥
   other-place s m e ne z = let w = in-window o s e in eqb-false s (F + m / width) ne (omega (arith, w .0, z))
 
-  pub length-leave : (rows : List ℕ) (held : Option (List ℕ)) (seconds : List ℕ) → Inside held → width * C ≤ length seconds → length (leaveFor rows held seconds) ≡ length seconds
+  pub length-leave : (rows : List ℕ) (held : Option (List ℕ)) (seconds : List ℕ) → Inside held → width * C ≤ length seconds
+      → length (leaveFor rows held seconds) ≡ length seconds
   length-leave rows none seconds h long = refl
   length-leave rows (some b) seconds h long =
-      length-with seconds (placeOf o (secondOf b)) _ (fits (secondOf b) seconds (h b refl) long) (length-second rows (secondOf b) (o .«highest_number»))
+      length-with seconds (placeOf o (secondOf b)) _ (fits (secondOf b) seconds (h b refl) long)
+      (length-second rows (secondOf b) (o .«highest_number»))
 
-  pub leave-frame : (rows : List ℕ) (held : Option (List ℕ)) (seconds : List ℕ) → Inside held → width * C ≤ length seconds → (m : ℕ) → isOf (F + m / width) held ≡ false → getD (leaveFor rows held seconds) m 0 ≡ getD seconds m 0
+  pub leave-frame : (rows : List ℕ) (held : Option (List ℕ)) (seconds : List ℕ) → Inside held → width * C ≤ length seconds
+      → (m : ℕ) → isOf (F + m / width) held ≡ false → getD (leaveFor rows held seconds) m 0 ≡ getD seconds m 0
   leave-frame rows none seconds h long m ne = refl
   leave-frame rows (some b) seconds h long m ne =
-      elsewhere seconds (placeOf o (secondOf b)) _ (fits (secondOf b) seconds (h b refl) long) (length-second rows (secondOf b) (o .«highest_number»))
+      elsewhere seconds (placeOf o (secondOf b)) _ (fits (secondOf b) seconds (h b refl) long)
+      (length-second rows (secondOf b) (o .«highest_number»))
       m (other-place (secondOf b) m (h b refl) ne)
 
   module _ (s : ℕ) (window : inWindow o s ≡ true) (row : List ℕ) (seconds : List ℕ) (long : width * C ≤ length seconds) where
@@ -101,7 +125,8 @@ module _ (o : Opening) where
     length-join false =
         length-with seconds (placeOf o s) _ (fits s seconds window long) (length-merged (blockAt seconds (placeOf o s)) row)
 
-    pub join-frame : (anew : Bool) (m : ℕ) → eqb s (F + m / width) ≡ false → getD (join anew seconds (placeOf o s) row) m 0 ≡ getD seconds m 0
+    pub join-frame : (anew : Bool) (m : ℕ) → eqb s (F + m / width) ≡ false → getD (join anew seconds (placeOf o s) row) m 0
+        ≡ getD seconds m 0
     unfolding join
     join-frame true m ne = refl
     join-frame false m ne =

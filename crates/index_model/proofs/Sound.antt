@@ -79,11 +79,14 @@ module _ (b : List ℕ) (accepted : recordRefusal b ≡ 0) where
   row-codes c i p q r =
       row-channel b c i p q r
       ∙ (λ t. getD (channelCells (held-all t) (totalOf (samplesOf (stretchOf b) c (held-all t)))) i 0)
-      ∙ ap (λ (l : List ℕ). getD l i 0) (cells-codes (channelSamples c b) (samples-signed b c) (sampleCount b) (samples-length b c) count-some)
+      ∙ ap (λ (l : List ℕ). getD l i 0)
+      (cells-codes (channelSamples c b) (samples-signed b c) (sampleCount b) (samples-length b c) count-some)
 
   codes-small : (c i : ℕ) → i < 4 → getD (codes (channelSamples c b)) i 0 ≤ rowLimit
-  codes-small c zero r = omega (arith, sum-code-small (channelSamples c b) (samples-signed b c), samples-length b c, count-small b)
-  codes-small c (suc zero) r = omega (arith, squares-bound (channelSamples c b) (samples-signed b c), samples-length b c, count-small b)
+  codes-small c zero r =
+      omega (arith, sum-code-small (channelSamples c b) (samples-signed b c), samples-length b c, count-small b)
+  codes-small c (suc zero) r =
+      omega (arith, squares-bound (channelSamples c b) (samples-signed b c), samples-length b c, count-small b)
   codes-small c (suc (suc zero)) r = omega (arith, top-most least-coding (channelSamples c b) (samples-signed b c))
   codes-small c (suc (suc (suc zero))) r = omega (arith, top-most greatest-coding (channelSamples c b) (samples-signed b c))
   codes-small c (suc (suc (suc (suc i)))) r = absurd (let z : ⊥ = omega arith in z)
@@ -108,7 +111,12 @@ module _ (b : List ℕ) (accepted : recordRefusal b ≡ 0) where
       later : 4 ≤ j → j < width → getD (rowOf b) j 0 ≤ rowLimit
       later k h =
           subst (λ (a : ℕ). getD (rowOf b) a 0 ≤ rowLimit) parts
-          (omega (arith, row-codes (j / 4) (j % 4) (omega arith) (omega arith) (omega arith), codes-small (j / 4) (j % 4) (omega arith)))
+          (omega (
+            arith,
+            row-codes (j / 4) (j % 4) (omega arith) (omega arith) (omega arith),
+            codes-small (j / 4) (j % 4)
+                (omega arith),
+          ))
 
 pub small-rows : {o : Opening} {L : Ledger} → SoundLedger o L → SmallRows L
 small-rows sound n b e j = row-small b (sound n b e .accepted) j

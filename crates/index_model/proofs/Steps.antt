@@ -15,11 +15,50 @@ use Rattle.index_model.specs.Cells.{width, rowOf}
 use Rattle.index_model.specs.Buffers.{Buffers}
 use Rattle.index_model.specs.Opening.{limitsWrong, heldWrong}
 use Rattle.index_model.specs.Calls.{inserted, rowInserted, removed, rowRemoved}
-use Rattle.index_model.specs.Ledger.{Ledger, withEntry, Call, insert, remove, query, consistency, done, second, tested, ledgerInsert, ledgerRemove, ledgerStep, ledgerReply}
-use Rattle.index_model.specs.History.{step, reply, after, replies, ledgerAfter, ledgerReplies, isAccepted, callNumber, isOf, leaves, joins, altersRow, altersSecond, Alters, EachAlters}
+use Rattle.index_model.specs.Ledger.{
+  Ledger,
+  withEntry,
+  Call,
+  insert,
+  remove,
+  query,
+  consistency,
+  done,
+  second,
+  tested,
+  ledgerInsert,
+  ledgerRemove,
+  ledgerStep,
+  ledgerReply,
+}
+use Rattle.index_model.specs.History.{
+  step,
+  reply,
+  after,
+  replies,
+  ledgerAfter,
+  ledgerReplies,
+  isAccepted,
+  callNumber,
+  isOf,
+  leaves,
+  joins,
+  altersRow,
+  altersSecond,
+  Alters,
+  EachAlters,
+}
 use Rattle.index_model.proofs.Agreement.{Regular, Agree}
 use Rattle.index_model.proofs.Changes.{Changed, put-changed, taken-changed}
-use Rattle.index_model.proofs.Judging.{put-accepted, take-accepted, others-count, put-judged, take-judged, ask-answered, test-answered}
+use Rattle.index_model.proofs.Judging.{
+  put-accepted,
+  take-accepted,
+  others-count,
+  put-judged,
+  take-judged,
+  ask-answered,
+  test-answered,
+}
 
 -- a call that changes nothing alters only what it may
 same : (o : Opening) (L : Ledger) (call : Call) (c : Buffers) → Alters o L call c c
@@ -37,7 +76,9 @@ second-fails : (a b : Bool) → a ≡ true → a && b ≡ false → b ≡ false
 second-fails a b e h = (λ t. sym e t && b) ∙ h
 
 -- an accepted call, once its change is made
-changed-steps : (o : Opening) (L : Ledger) (call : Call) (entry : Option (List ℕ)) (c c' : Buffers) → isAccepted o L call ≡ true → ((k : ℕ) → joins call k ≡ isOf k entry) → Changed o L (callNumber call) entry c c' → Stepped o L call (withEntry L (callNumber call) entry) c c'
+changed-steps : (o : Opening) (L : Ledger) (call : Call) (entry : Option (List ℕ)) (c c' : Buffers) → isAccepted o L call ≡ true
+    → ((k : ℕ) → joins call k ≡ isOf k entry) → Changed o L (callNumber call) entry c c'
+    → Stepped o L call (withEntry L (callNumber call) entry) c c'
 unfolding altersRow altersSecond
 changed-steps o L call entry c c' e joined changed =
     record {
@@ -51,7 +92,8 @@ changed-steps o L call entry c c' e joined changed =
             seconds =
                 λ m h.
                 let k : ℕ = o .«first_second» + m / width in
-                let neither = or-false (leaves L call k) (joins call k) (second-fails (isAccepted o L call) (leaves L call k || joins call k) e h) in
+                let neither = or-false (leaves L call k) (joins call k)
+                (second-fails (isAccepted o L call) (leaves L call k || joins call k) e h) in
                 changed .seconds m (neither .0) (sym (joined k) ∙ neither .1);
             nothing = λ h. absurd (true≢false (sym e ∙ h));
           };
@@ -66,13 +108,19 @@ module _ (o : Opening) (fine : limitsWrong o || heldWrong o ≡ false) where
     abbrev taken : ℕ → Buffers
     taken n = rowRemoved o (n - 1) c
 
-    put-done : (b : List ℕ) → eqb (ledgerInsert o L b) 0 ≡ true → Stepped o L (insert b) (withEntry L (numberOf b) (some b)) c (put b)
+    put-done : (b : List ℕ) → eqb (ledgerInsert o L b) 0 ≡ true
+        → Stepped o L (insert b) (withEntry L (numberOf b) (some b)) c (put b)
     unfolding isAccepted
     put-done b e =
         let enters = put-accepted o L b (eqb-true (ledgerInsert o L b) 0 e) in
         changed-steps o L (insert b) (some b) c (put b) e (λ k. refl)
         (put-changed o L c regular agree (numberOf b) (enters .above) (enters .below) b (enters .sound)
-        (omega (arith, enters .room, others-count o fine L c regular agree (numberOf b) (secondOf b) (enters .above) (enters .below))))
+        (omega (
+          arith,
+          enters .room,
+          others-count o fine L c regular agree (numberOf b) (secondOf b) (enters .above)
+              (enters .below),
+        )))
 
     take-done : (n : ℕ) → eqb (ledgerRemove o L n) 0 ≡ true → Stepped o L (remove n) (withEntry L n none) c (taken n)
     unfolding isAccepted
@@ -82,7 +130,8 @@ module _ (o : Opening) (fine : limitsWrong o || heldWrong o ≡ false) where
         (taken-changed o L c regular agree n (range .0) (range .1))
 
     -- by the ledger's test: the change, or nothing
-    by-test : (call : Call) (L' : Ledger) (c' : Buffers) (t : Bool) → (t ≡ true → Stepped o L call L' c c') → Stepped o L call (cond t L' L) c (cond t c' c)
+    by-test : (call : Call) (L' : Ledger) (c' : Buffers) (t : Bool) → (t ≡ true → Stepped o L call L' c c')
+        → Stepped o L call (cond t L' L) c (cond t c' c)
     by-test call L' c' true h = h refl
     by-test call L' c' false h = record { regular = regular; agree = agree; alters = same o L call c }
 
@@ -110,13 +159,15 @@ module _ (o : Opening) (fine : limitsWrong o || heldWrong o ≡ false) where
 
   -- ## any list of calls
 
-  pub after-agrees : (calls : List Call) (L : Ledger) (c : Buffers) → Regular o L → Agree o L c → Regular o (ledgerAfter o calls L) × Agree o (ledgerAfter o calls L) (after o calls c)
+  pub after-agrees : (calls : List Call) (L : Ledger) (c : Buffers) → Regular o L → Agree o L c
+      → Regular o (ledgerAfter o calls L) × Agree o (ledgerAfter o calls L) (after o calls c)
   after-agrees [] L c g a = (g, a)
   after-agrees (call ∷ calls) L c g a =
       let next = stepped L c g a call in
       after-agrees calls (ledgerStep o call L) (step o call c) (next .regular) (next .agree)
 
-  pub all-answered : (calls : List Call) (L : Ledger) (c : Buffers) → Regular o L → Agree o L c → replies o calls c ≡ ledgerReplies o calls L
+  pub all-answered : (calls : List Call) (L : Ledger) (c : Buffers) → Regular o L → Agree o L c
+      → replies o calls c ≡ ledgerReplies o calls L
   all-answered [] L c g a = refl
   all-answered (call ∷ calls) L c g a =
       let next = stepped L c g a call in

@@ -11,7 +11,18 @@ use lib.ListN.{getD}
 use borrow.Author.Tests.{eqb-true, eqb-false, ne-eqb}
 use Rattle.sample_rates.specs.Rates.{mostSamples}
 use Rattle.index_model.specs.Records.{secondOf}
-use Rattle.index_model.specs.Cells.{width, sampleOffset, cell, rowOf, flag, isGreatest, cellLimit, rowWithin, mergeIf, cellFrom}
+use Rattle.index_model.specs.Cells.{
+  width,
+  sampleOffset,
+  cell,
+  rowOf,
+  flag,
+  isGreatest,
+  cellLimit,
+  rowWithin,
+  mergeIf,
+  cellFrom,
+}
 use Rattle.index_model.specs.Ledger.{Ledger, withEntry}
 use Rattle.index_model.specs.History.{isOf}
 use Rattle.index_model.proofs.Merges.{plainBy, plain-swap, plain-none, plain-sum, exact, fits-before}
@@ -41,7 +52,8 @@ module _ (L : Ledger) (n : ℕ) (held : Option (List ℕ)) (s j : ℕ) where
       ∙ (rw e refl)
 
   -- the total is that without the number, merged with its share: every other law of the totals follows from this one
-  pub one-share : (m : ℕ) → 0 < n → n ≤ m → cellTotal (withEntry L n held) s j m ≡ plainBy (isGreatest j) (cellTotal (withEntry L n none) s j m) (share s j held)
+  pub one-share : (m : ℕ) → 0 < n → n ≤ m → cellTotal (withEntry L n held) s j m
+      ≡ plainBy (isGreatest j) (cellTotal (withEntry L n none) s j m) (share s j held)
   unfolding cellTotal share
   one-share zero p q = absurd (let z : ⊥ = omega arith in z)
   one-share (suc m) p q = by-test (eqb (suc m) n) refl (λ z. one-share m p z)
@@ -52,8 +64,10 @@ module _ (L : Ledger) (n : ℕ) (held : Option (List ℕ)) (s j : ℕ) where
       without : ℕ
       without = cellTotal (withEntry L n none) s j m
 
-      by-test : (t : Bool) → eqb (suc m) n ≡ t → (n ≤ m → cellTotal (withEntry L n held) s j m ≡ plainBy g without (share s j held))
-          → plainBy g (cellTotal (withEntry L n held) s j m) (share s j (cond t held (L (suc m)))) ≡ plainBy g (plainBy g without (share s j (cond t none (L (suc m))))) (share s j held)
+      by-test : (t : Bool) → eqb (suc m) n ≡ t
+          → (n ≤ m → cellTotal (withEntry L n held) s j m ≡ plainBy g without (share s j held))
+          → plainBy g (cellTotal (withEntry L n held) s j m) (share s j (cond t held (L (suc m))))
+          ≡ plainBy g (plainBy g without (share s j (cond t none (L (suc m))))) (share s j held)
       by-test true e again =
           (λ t. plainBy g (below m (omega (arith, eqb-true (suc m) n e)) t) (share s j held))
           ∙ sym (λ t. plainBy g (plain-none g without t) (share s j held))
@@ -69,7 +83,8 @@ itself L n k = by-test (eqb k n) refl
     by-test true e = ap L (sym (eqb-true k n e))
     by-test false e = refl
 
-pub own-share : (L : Ledger) (n s j m : ℕ) → 0 < n → n ≤ m → cellTotal L s j m ≡ plainBy (isGreatest j) (cellTotal (withEntry L n none) s j m) (share s j (L n))
+pub own-share : (L : Ledger) (n s j m : ℕ) → 0 < n → n ≤ m
+    → cellTotal L s j m ≡ plainBy (isGreatest j) (cellTotal (withEntry L n none) s j m) (share s j (L n))
 own-share L n s j m p q = sym (λ t. cellTotal (λ (k : ℕ). itself L n k t) s j m) ∙ one-share L n (L n) s j m p q
 
 pub share-none : (s j : ℕ) (held : Option (List ℕ)) → isOf s held ≡ false → share s j held ≡ 0
@@ -87,10 +102,12 @@ share-count s none = refl
 share-count s (some b) = λ t. cond (eqb (secondOf b) s) (row-records b t) 0
 
 -- a changed entry leaves the totals of a second that neither the old nor the new entry is of
-pub stays : (L : Ledger) (n s j m : ℕ) (held : Option (List ℕ)) → 0 < n → n ≤ m → isOf s (L n) ≡ false → isOf s held ≡ false → cellTotal (withEntry L n held) s j m ≡ cellTotal L s j m
+pub stays : (L : Ledger) (n s j m : ℕ) (held : Option (List ℕ)) → 0 < n → n ≤ m → isOf s (L n) ≡ false → isOf s held ≡ false
+    → cellTotal (withEntry L n held) s j m ≡ cellTotal L s j m
 stays L n s j m held p q a b =
     one-share L n held s j m p q
-    ∙ ap (λ (x : ℕ). plainBy (isGreatest j) (cellTotal (withEntry L n none) s j m) x) (share-none s j held b ∙ sym (share-none s j (L n) a))
+    ∙ ap (λ (x : ℕ). plainBy (isGreatest j) (cellTotal (withEntry L n none) s j m) x)
+    (share-none s j held b ∙ sym (share-none s j (L n) a))
     ∙ sym (own-share L n s j m p q)
 
 -- ## counts and bounds
@@ -106,7 +123,8 @@ rowLimit = sampleOffset * sampleOffset * mostSamples
 abbrev pub SmallRows : Ledger → Type 0
 SmallRows L = (n : ℕ) (b : List ℕ) → L n ≡ some b → (j : ℕ) → getD (rowOf b) j 0 ≤ rowLimit
 
-share-small : (s j : ℕ) (held : Option (List ℕ)) → ((b : List ℕ) → held ≡ some b → getD (rowOf b) j 0 ≤ rowLimit) → share s j held ≤ rowLimit * share s 0 held
+share-small : (s j : ℕ) (held : Option (List ℕ)) → ((b : List ℕ) → held ≡ some b → getD (rowOf b) j 0 ≤ rowLimit)
+    → share s j held ≤ rowLimit * share s 0 held
 unfolding share
 share-small s j none small = omega arith
 share-small s j (some b) small = by-test (eqb (secondOf b) s)
@@ -119,10 +137,18 @@ bounded : (L : Ledger) → SmallRows L → (s j m : ℕ) → isGreatest j ≡ fa
 unfolding cellTotal
 bounded L small s j zero e = omega arith
 bounded L small s j (suc m) e =
-    omega (arith, bounded L small s j m e, share-small s j (L (suc m)) (λ b h. small (suc m) b h j), plain-sum (isGreatest j) (cellTotal L s j m) (share s j (L (suc m))) e, count-sum (cellTotal L s 0 m) (share s 0 (L (suc m))))
+    omega (
+      arith,
+      bounded L small s j m e,
+      share-small s j (L (suc m)) (λ b h. small (suc m) b h j),
+      plain-sum (isGreatest j)
+          (cellTotal L s j m) (share s j (L (suc m))) e,
+      count-sum (cellTotal L s 0 m) (share s 0 (L (suc m))),
+    )
 
 -- sums of a full second's records fit a cell
-pub sums-fit : (L : Ledger) → SmallRows L → (s j m : ℕ) → cellTotal L s 0 m ≤ mostRecords → isGreatest j ≡ false → cellTotal L s j m < cellLimit
+pub sums-fit : (L : Ledger) → SmallRows L → (s j m : ℕ) → cellTotal L s 0 m ≤ mostRecords → isGreatest j ≡ false
+    → cellTotal L s j m < cellLimit
 sums-fit L small s j m h e = omega (arith, bounded L small s j m e)
 
 -- ## the pass over the rows
@@ -140,18 +166,23 @@ module _ (R : ℕ) (L : Ledger) (rows : List ℕ) (are : RowsOf R L rows) where
       by-entry none = refl
       by-entry (some b) = λ t. not (eqb (row-records b t) 0) && eqb (row-second b t) s
 
-  one-row : (s j a : ℕ) (held : Option (List ℕ)) → (isGreatest j ≡ false → plainBy (isGreatest j) a (share s j held) < cellLimit) → mergeIf (isOf s held) j a (getD (rowFor held) j 0) ≡ plainBy (isGreatest j) a (share s j held)
+  one-row : (s j a : ℕ) (held : Option (List ℕ)) → (isGreatest j ≡ false → plainBy (isGreatest j) a (share s j held) < cellLimit)
+      → mergeIf (isOf s held) j a (getD (rowFor held) j 0) ≡ plainBy (isGreatest j) a (share s j held)
   unfolding share
   one-row s j a none f = sym (plain-none (isGreatest j) a)
   one-row s j a (some b) f = by-test (eqb (secondOf b) s) f
     where
-      by-test : (t : Bool) → (isGreatest j ≡ false → plainBy (isGreatest j) a (cond t (getD (rowOf b) j 0) 0) < cellLimit) → mergeIf t j a (getD (rowOf b) j 0) ≡ plainBy (isGreatest j) a (cond t (getD (rowOf b) j 0) 0)
+      by-test : (t : Bool) → (isGreatest j ≡ false → plainBy (isGreatest j) a (cond t (getD (rowOf b) j 0) 0) < cellLimit)
+          → mergeIf t j a (getD (rowOf b) j 0) ≡ plainBy (isGreatest j) a (cond t (getD (rowOf b) j 0) 0)
       by-test true f = exact (isGreatest j) a (getD (rowOf b) j 0) f
       by-test false f = sym (plain-none (isGreatest j) a)
 
-  pub passed : (s j : ℕ) → j < width → (m : ℕ) → m ≤ R → (isGreatest j ≡ false → cellTotal L s j m < cellLimit) → cellFrom rows s j m ≡ cellTotal L s j m
+  pub passed : (s j : ℕ) → j < width → (m : ℕ) → m ≤ R → (isGreatest j ≡ false → cellTotal L s j m < cellLimit)
+      → cellFrom rows s j m ≡ cellTotal L s j m
   unfolding cellTotal cellFrom
   passed s j hj zero q f = refl
   passed s j hj (suc m) q f =
-      (λ t. mergeIf (within-is m s (omega arith) t) j (passed s j hj m (omega arith) (fits-before (isGreatest j) (cellTotal L s j m) (share s j (L (suc m))) f) t) (are m (omega arith) j hj t))
+      (λ t. mergeIf (within-is m s (omega arith) t) j
+      (passed s j hj m (omega arith) (fits-before (isGreatest j) (cellTotal L s j m) (share s j (L (suc m))) f) t)
+      (are m (omega arith) j hj t))
       ∙ one-row s j (cellTotal L s j m) (L (suc m)) f

@@ -17,8 +17,30 @@ use Rattle.index_model.specs.Records.{secondOf}
 use Rattle.index_model.specs.Cells.{width, cell}
 use Rattle.index_model.specs.Buffers.{Buffers}
 use Rattle.index_model.specs.Opening.{limitsWrong, heldWrong}
-use Rattle.index_model.specs.Ledger.{Ledger, Call, insert, remove, query, consistency, ledgerInsert, ledgerRemove, ledgerStep}
-use Rattle.index_model.specs.History.{step, after, ledgerAfter, isAccepted, callNumber, isOf, leaves, joins, altersRow, altersSecond, Alters}
+use Rattle.index_model.specs.Ledger.{
+  Ledger,
+  Call,
+  insert,
+  remove,
+  query,
+  consistency,
+  ledgerInsert,
+  ledgerRemove,
+  ledgerStep,
+}
+use Rattle.index_model.specs.History.{
+  step,
+  after,
+  ledgerAfter,
+  isAccepted,
+  callNumber,
+  isOf,
+  leaves,
+  joins,
+  altersRow,
+  altersSecond,
+  Alters,
+}
 use Rattle.index_model.proofs.Limits.{in-window}
 use Rattle.index_model.proofs.Seconds.{Inside}
 use Rattle.index_model.proofs.Agreement.{Regular, Agree}
@@ -36,11 +58,14 @@ module _ (o : Opening) (L : Ledger) (regular : Regular o L) where
   number-below (query s) e = absurd (true≢false (sym e))
   number-below consistency e = absurd (true≢false (sym e))
 
-  none-beyond : (held : Option (List ℕ)) → Inside o held → (k : ℕ) → o .«second_count» ≤ k → isOf (o .«first_second» + k) held ≡ false
+  none-beyond : (held : Option (List ℕ)) → Inside o held → (k : ℕ) → o .«second_count» ≤ k
+      → isOf (o .«first_second» + k) held ≡ false
   none-beyond none h k q = refl
-  none-beyond (some b) h k q = ne-eqb (secondOf b) (o .«first_second» + k) (λ z. omega (arith, z, in-window o (secondOf b) (h b refl) .1))
+  none-beyond (some b) h k q =
+      ne-eqb (secondOf b) (o .«first_second» + k) (λ z. omega (arith, z, in-window o (secondOf b) (h b refl) .1))
 
-  joins-beyond : (call : Call) → isAccepted o L call ≡ true → (k : ℕ) → o .«second_count» ≤ k → joins call (o .«first_second» + k) ≡ false
+  joins-beyond : (call : Call) → isAccepted o L call ≡ true → (k : ℕ) → o .«second_count» ≤ k
+      → joins call (o .«first_second» + k) ≡ false
   unfolding isAccepted
   joins-beyond (insert b) e k q =
       ne-eqb (secondOf b) (o .«first_second» + k)
@@ -61,9 +86,11 @@ module _ (o : Opening) (L : Ledger) (regular : Regular o L) where
   unfolding altersSecond
   seconds-beyond call k q = by-test (isAccepted o L call) refl
     where
-      by-test : (t : Bool) → isAccepted o L call ≡ t → t && (leaves L call (o .«first_second» + k) || joins call (o .«first_second» + k)) ≡ false
+      by-test : (t : Bool) → isAccepted o L call ≡ t
+          → t && (leaves L call (o .«first_second» + k) || joins call (o .«first_second» + k)) ≡ false
       by-test true e =
-          λ t. none-beyond (L (callNumber call)) (λ b h. regular .sound (callNumber call) b h .window) k q t || joins-beyond call e k q t
+          λ t. none-beyond (L (callNumber call)) (λ b h. regular .sound (callNumber call) b h .window) k q t
+          || joins-beyond call e k q t
       by-test false e = refl
 
 -- lengths, and what lies beyond, are the same
@@ -99,21 +126,28 @@ module _ (o : Opening) (fine : limitsWrong o || heldWrong o ≡ false) where
 -- ## so the ledger tells the cells
 
 -- lists of blocks with the same first n blocks and the same cells beyond
-same-cells : (n : ℕ) (x y : List ℕ) → length x ≡ length y → ((i : ℕ) → i < n → (j : ℕ) → j < width → cell x i j ≡ cell y i j) → ((m : ℕ) → width * n ≤ m → getD x m 0 ≡ getD y m 0) → x ≡ y
+same-cells : (n : ℕ) (x y : List ℕ) → length x ≡ length y → ((i : ℕ) → i < n → (j : ℕ) → j < width → cell x i j ≡ cell y i j)
+    → ((m : ℕ) → width * n ≤ m → getD x m 0 ≡ getD y m 0) → x ≡ y
 same-cells n x y e within beyond =
     ext-getD 0 x y e
     (λ m h. ⊎-elim (λ p. beyond m p)
-    (λ p. let z : width * (m / width) + m % width ≡ m = omega arith in sym (λ t. getD x (z t) 0) ∙ within (m / width) (omega arith) (m % width) (omega arith) ∙ (λ t. getD y (z t) 0))
+    (λ p. let z : width * (m / width) + m % width ≡ m = omega arith in sym (λ t. getD x (z t) 0)
+    ∙ within (m / width) (omega arith) (m % width) (omega arith) ∙ (λ t. getD y (z t) 0))
     (le-or-lt (width * n) m))
 
 pub unique : (o : Opening) (L : Ledger) (c c' : Buffers) → Agree o L c → Agree o L c' → SameBeyond o c c' → c' ≡ c
 unique o L c c' a a' b =
     λ t. record {
-      rows = same-cells (o .«highest_number») (c' .rows) (c .rows) (b .rows-length) (λ i hi j hj. a' .rows-are i hi j hj ∙ sym (a .rows-are i hi j hj)) (b .rows) t;
-      seconds = same-cells (o .«second_count») (c' .seconds) (c .seconds) (b .seconds-length) (λ k hk j hj. a' .seconds-are k hk j hj ∙ sym (a .seconds-are k hk j hj)) (b .seconds) t;
+      rows =
+          same-cells (o .«highest_number») (c' .rows) (c .rows) (b .rows-length)
+          (λ i hi j hj. a' .rows-are i hi j hj ∙ sym (a .rows-are i hi j hj)) (b .rows) t;
+      seconds =
+          same-cells (o .«second_count») (c' .seconds) (c .seconds) (b .seconds-length)
+          (λ k hk j hj. a' .seconds-are k hk j hj ∙ sym (a .seconds-are k hk j hj)) (b .seconds) t;
     }
 
-pub told-by-ledger : (o : Opening) → limitsWrong o || heldWrong o ≡ false → (L : Ledger) (c : Buffers) → Regular o L → Agree o L c → (calls calls' : List Call) → ledgerAfter o calls L ≡ ledgerAfter o calls' L → after o calls c ≡ after o calls' c
+pub told-by-ledger : (o : Opening) → limitsWrong o || heldWrong o ≡ false → (L : Ledger) (c : Buffers) → Regular o L → Agree o L c
+    → (calls calls' : List Call) → ledgerAfter o calls L ≡ ledgerAfter o calls' L → after o calls c ≡ after o calls' c
 told-by-ledger o fine L c g a calls calls' same =
     let x = after-beyond o fine calls L c g a in
     let y = after-beyond o fine calls' L c g a in

@@ -1,5 +1,5 @@
--- The calls after opening, on any cells whatever: what each answers, and the buffers that it leaves. FORMAT, "The index of seconds".
--- A put or take-out that is refused leaves every cell as it was; a question and a test change none.
+-- The calls after opening, on any cells whatever: what each answers, and the buffers that it leaves. FORMAT, "The index of
+-- seconds". A put or take-out that is refused leaves every cell as it was; a question and a test change none.
 use Prim.Native.Nat.{ℕ, zero, suc, _+_, _-_, _*_, _%_}
 use mathlib.Core.Bool.{Bool, true, false, cond, not, _&&_, _||_}
 use mathlib.Core.List.{List, [], _∷_}
@@ -17,7 +17,22 @@ use Rattle.totals.specs.Total.{noTotal}
 use Rattle.index_model.specs.declared.Opening.{Opening}
 use Rattle.index_model.specs.Records.{numberOf, secondOf}
 use Rattle.index_model.specs.Second.{SecondTotals, noSecond}
-use Rattle.index_model.specs.Cells.{width, channelCell, sampleOffset, greatestOffset, cell, blockAt, withBlock, rowOf, noRow, flag, merged, rowWithin, cellFrom, secondFrom}
+use Rattle.index_model.specs.Cells.{
+  width,
+  channelCell,
+  sampleOffset,
+  greatestOffset,
+  cell,
+  blockAt,
+  withBlock,
+  rowOf,
+  noRow,
+  flag,
+  merged,
+  rowWithin,
+  cellFrom,
+  secondFrom,
+}
 use Rattle.index_model.specs.Buffers.{Buffers}
 use Rattle.index_model.specs.Opening.{openingRefusal, otherReel, isOutside, inWindow, placeOf}
 
@@ -41,7 +56,8 @@ join anew seconds k row = cond anew seconds (withBlock seconds k (merged (blockA
 -- row i replaced by a row of second s: the second that the old row was of is left, and second s is joined
 unfoldable pub secondsInserted : Opening → ℕ → ℕ → List ℕ → Buffers → List ℕ
 secondsInserted o i s row c =
-    join (rowWithin (c .rows) i s) (leave o (withBlock (c .rows) i row) (cell (c .rows) i 0) (cell (c .rows) i 3) (c .seconds)) (placeOf o s)
+    join (rowWithin (c .rows) i s) (leave o (withBlock (c .rows) i row) (cell (c .rows) i 0) (cell (c .rows) i 3) (c .seconds))
+    (placeOf o s)
     row
 
 abbrev pub rowInserted : Opening → ℕ → ℕ → List ℕ → Buffers → Buffers

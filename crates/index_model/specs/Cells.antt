@@ -58,7 +58,8 @@ greatestOffset = sampleOffset + 1
 -- the four cells of a channel's total over n samples
 abbrev pub channelCells : ℕ → Total → List ℕ
 channelCells n t =
-    natOf (t .sum +ℤ pos (sampleOffset * n)) ∷ t .squares ∷ natOf (pos sampleOffset -ℤ t .least) ∷ natOf (t .greatest +ℤ pos greatestOffset) ∷ []
+    natOf (t .sum +ℤ pos (sampleOffset * n)) ∷ t .squares ∷ natOf (pos sampleOffset -ℤ t .least)
+    ∷ natOf (t .greatest +ℤ pos greatestOffset) ∷ []
 
 abbrev pub allChannelCells : ℕ → List Total → List ℕ
 allChannelCells n [] = []
@@ -67,7 +68,8 @@ allChannelCells n (t ∷ ts) = channelCells n t ++ allChannelCells n ts
 abbrev pub flag : Bool → ℕ
 flag b = cond b 1 0
 
--- the samples of each channel that a stretch holds, and the cells of the four channels; the stretch of an accepted record holds as
+-- the samples of each channel that a stretch holds, and the cells of the four channels; the stretch of an accepted record holds
+-- as
 -- many as its rate says
 abbrev pub samplesIn : List ℕ → ℕ
 samplesIn stretch = length stretch / 4

@@ -1,5 +1,5 @@
--- Histories: an opening and a list of calls, run on the cells and on the ledger. A call leaves the second of the record that goes or
--- is replaced, and joins that of the record put. FORMAT, "The ledger".
+-- Histories: an opening and a list of calls, run on the cells and on the ledger. A call leaves the second of the record that goes
+-- or is replaced, and joins that of the record put. FORMAT, "The ledger".
 use Prim.Native.Nat.{ℕ, suc, _+_, _/_}
 use mathlib.Core.Path.{_≡_}
 use mathlib.Core.Bool.{Bool, false, _&&_, _||_}
@@ -12,7 +12,22 @@ use Rattle.index_model.specs.Records.{numberOf, secondOf}
 use Rattle.index_model.specs.Cells.{width}
 use Rattle.index_model.specs.Buffers.{Buffers}
 use Rattle.index_model.specs.Calls.{insertRefusal, inserted, removeRefusal, removed, queryAnswer, consistencyAnswer}
-use Rattle.index_model.specs.Ledger.{Ledger, Call, insert, remove, query, consistency, Reply, done, second, tested, ledgerInsert, ledgerRemove, ledgerStep, ledgerReply}
+use Rattle.index_model.specs.Ledger.{
+  Ledger,
+  Call,
+  insert,
+  remove,
+  query,
+  consistency,
+  Reply,
+  done,
+  second,
+  tested,
+  ledgerInsert,
+  ledgerRemove,
+  ledgerStep,
+  ledgerReply,
+}
 
 -- the buffers after a call, and its answer
 unfoldable pub step : Opening → Call → Buffers → Buffers
@@ -95,4 +110,5 @@ pub record Alters (o : Opening) (ledger : Ledger) (call : Call) (old new : Buffe
 -- every call of a list does so
 abbrev pub EachAlters : Opening → List Call → Ledger → Buffers → Type 0
 EachAlters o [] ledger c = Unit
-EachAlters o (call ∷ calls) ledger c = Alters o ledger call c (step o call c) × EachAlters o calls (ledgerStep o call ledger) (step o call c)
+EachAlters o (call ∷ calls) ledger c =
+    Alters o ledger call c (step o call c) × EachAlters o calls (ledgerStep o call ledger) (step o call c)

@@ -18,7 +18,8 @@ module _ (pattern : List ℕ) (F C R : ℕ) (c : Buffers) where
   refusal = openRefusal pattern F C R c
 
   -- what the code judged is the refusal
-  pub judged : {n : ℕ} {made : Opening} → made ≡ o → n ≡ recordRefusal pattern then first (13 when limitsWrong made ∷ 14 when tooSmall made c ∷ []) → n ≡ refusal
+  pub judged : {n : ℕ} {made : Opening} → made ≡ o
+      → n ≡ recordRefusal pattern then first (13 when limitsWrong made ∷ 14 when tooSmall made c ∷ []) → n ≡ refusal
   unfolding openRefusal
   judged is e = e ∙ (λ i. recordRefusal pattern then first (13 when limitsWrong (is i) ∷ 14 when tooSmall (is i) c ∷ []))
 
@@ -27,7 +28,8 @@ module _ (pattern : List ℕ) (F C R : ℕ) (c : Buffers) where
   accepted-opening is none = ap (λ (v : Opening). accepted v) is ∙ unless-none refusal noOpening o none
 
   -- there is a refusal: no cell changes
-  pub not-opened : {n : ℕ} → n ≡ refusal → (n ≡ 0 → ⊥) → (refused noOpening n ≡ openAnswer pattern F C R c) × (c ≡ opened pattern F C R c)
+  pub not-opened : {n : ℕ} → n ≡ refusal → (n ≡ 0 → ⊥) → (refused noOpening n ≡ openAnswer pattern F C R c)
+      × (c ≡ opened pattern F C R c)
   unfolding openAnswer opened
   not-opened e some =
       let s : refusal ≡ 0 → ⊥ = λ z. some (e ∙ z) in

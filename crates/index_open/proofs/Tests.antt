@@ -14,7 +14,8 @@ use Rattle.index_model.specs.Opening.{daySeconds, inWindow, placeOf}
 
 -- two tests that hold in the same cases
 same-test : (a b c d : ℕ) → (a < b → c < d) → (b ≤ a → d ≤ c) → ltb a b ≡ ltb c d
-same-test a b c d f g = ⊎-elim (λ p. le-ltb a b p ∙ sym (le-ltb c d (g p))) (λ p. lt-ltb a b p ∙ sym (lt-ltb c d (f p))) (le-or-lt b a)
+same-test a b c d f g =
+    ⊎-elim (λ p. le-ltb a b p ∙ sym (le-ltb c d (g p))) (λ p. lt-ltb a b p ∙ sym (lt-ltb c d (f p))) (le-or-lt b a)
 
 -- F + C above 86,400, for a C of at most 86,400 and for one above it
 pub past-day : (F C : ℕ) → C ≤ daySeconds → ltb (daySeconds - C) F ≡ ltb daySeconds (F + C)

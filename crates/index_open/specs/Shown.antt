@@ -1,4 +1,4 @@
--- The number and the value of 01 for each case of opening's answer.
+-- The number and the value for each case of opening's answer.
 use Rattle.answers.specs.Answer.{Answer, accepted, refused}
 use Rattle.index_model.specs.declared.Opening.{Opening}
 use Rattle.index_model.specs.Opening.{noOpening}

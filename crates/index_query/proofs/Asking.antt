@@ -38,10 +38,13 @@ module _ (o : Opening) (s : ℕ) (c : Buffers) where
     pub asked : accepted (secondShown o (blockOrNone (c .seconds) (placeOf o s))) ≡ queryAnswer o s c
     unfolding queryAnswer
     asked =
-        (λ t. accepted (secondShown o (block-read (c .seconds) (o .«second_count») (placeOf o s) (limits .seconds-long) (omega (arith, window .0, window .1)) t)))
+        (λ t. accepted (secondShown o
+        (block-read (c .seconds) (o .«second_count») (placeOf o s) (limits .seconds-long)
+        (omega (arith, window .0, window .1)) t)))
         ∙ unless-none refusal noSecond (secondShown o (blockAt (c .seconds) (placeOf o s))) none
 
   pub not-asked : (n : ℕ) → n ≡ refusal → (n ≡ 0 → ⊥) → refused noSecond n ≡ queryAnswer o s c
   unfolding queryAnswer
   not-asked n e some =
-      ap (λ (n : ℕ). refused noSecond n) e ∙ unless-some refusal noSecond (secondShown o (blockAt (c .seconds) (placeOf o s))) (λ z. some (e ∙ z))
+      ap (λ (n : ℕ). refused noSecond n) e
+      ∙ unless-some refusal noSecond (secondShown o (blockAt (c .seconds) (placeOf o s))) (λ z. some (e ∙ z))

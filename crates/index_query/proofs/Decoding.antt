@@ -30,7 +30,8 @@ samples-most : (hz : ℕ) → samplesPerRecord (sampleRateOf hz) ≤ mostSamples
 samples-most hz =
     ⊎-elim (λ e. subst (λ (l : SampleRate). samplesPerRecord l ≤ mostSamples) (sym e) (omega arith)) (λ l. l .most) (rate-line hz)
 
-pub count-most : (records hz : ℕ) (rate : SampleRate) → rate ≡ sampleRateOf hz → records < cellLimit → records * samplesPerRecord rate ≤ sampleLimit
+pub count-most : (records hz : ℕ) (rate : SampleRate) → rate ≡ sampleRateOf hz → records < cellLimit
+    → records * samplesPerRecord rate ≤ sampleLimit
 count-most records hz rate e h =
     mul-le-mul {n₁ = records} {m₁ = samplesPerRecord rate} {n₂ = cellLimit} {m₂ = mostSamples} (omega arith)
     (subst (λ (l : SampleRate). samplesPerRecord l ≤ mostSamples) (sym e) (samples-most hz))

@@ -1,5 +1,5 @@
--- Numbers that a 64-bit float holds exactly. On any cells whatever, the totals of a second are such numbers, so that a mean is one
--- division of two of them. FORMAT, "The index of seconds".
+-- Numbers that a 64-bit float holds exactly. On any cells whatever, the totals of a second are such numbers, so that a mean is
+-- one division of two of them. FORMAT, "The index of seconds".
 use Prim.Native.Nat.{ℕ, _^_, _≤_}
 use mathlib.Core.List.{List}
 use lib.IntN.{natAbs}

@@ -1,5 +1,5 @@
-// Questions to the index about a second, and the test of its cells. FORMAT, "The index of seconds", "Refusal numbers". Every public
-// function here takes any value of an opening and any cells, and changes none; 0 is no refusal.
+// Questions to the index about a second, and the test of its cells. FORMAT, "The index of seconds", "Refusal numbers". Every
+// public function here takes any value of an opening and any cells, and changes none; 0 is no refusal.
 ghost use mathlib.Core.Path.{_≡_};
 ghost use mathlib.Core.Bool.{_||_};
 ghost use Prim.Native.Nat.{_*_, _≤_, _<_};

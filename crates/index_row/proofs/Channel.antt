@@ -38,7 +38,8 @@ sum-within n t b = raised (t .sum) (sampleOffset * n) (b .sums) (omega (arith, b
 
 pub least-within : (x : ℤ) → SFits w8 x → Within (pos sampleOffset -ℤ x)
 least-within x f =
-    subst Within (+ℤ-comm (negℤ x) (pos sampleOffset)) (raised (negℤ x) sampleOffset (omega (arith, negative-abs x, byte-abs f)) (omega arith))
+    subst Within (+ℤ-comm (negℤ x) (pos sampleOffset))
+    (raised (negℤ x) sampleOffset (omega (arith, negative-abs x, byte-abs f)) (omega arith))
 
 pub greatest-within : (x : ℤ) → SFits w8 x → Within (x +ℤ pos greatestOffset)
 greatest-within x f = raised x greatestOffset (omega (arith, byte-abs f)) (omega arith)
@@ -49,7 +50,8 @@ pub record Makes (made z : ℤ) : Type 0 where
   pub same : made ≡ z
   pub within : Within z
 
-pub sum-made : (n : ℕ) (t : Total) → Bounded n t → Makes (toZ w64 (ofZ w64 (t .sum)) +ℤ toZ w64 (sampleOffset * n)) (t .sum +ℤ pos (sampleOffset * n))
+pub sum-made : (n : ℕ) (t : Total) → Bounded n t
+    → Makes (toZ w64 (ofZ w64 (t .sum)) +ℤ toZ w64 (sampleOffset * n)) (t .sum +ℤ pos (sampleOffset * n))
 sum-made n t b =
     let f : SFits w64 (t .sum) = record { sfits = omega (arith, mag≤abs (t .sum), b .sums, b .few) } in
     record { same = λ i. toZ-ofZ f i +ℤ toZ-pos w64 (sampleOffset * n) (omega (arith, b .few)) i; within = sum-within n t b }
@@ -76,7 +78,8 @@ module _ {made z : ℤ} (m : Makes made z) where
   read = toZ-ofZ made-fits ∙ whole
 
   pub cell-fits : T (nonNeg (toZ w64 (ofZ w64 made))) × Fits w32 (natAbs (toZ w64 (ofZ w64 made)))
-  cell-fits = subst (λ (y : ℤ). T (nonNeg y) × Fits w32 (natAbs y)) (sym read) (tt, record { fits = omega (arith, m .within .most) })
+  cell-fits =
+      subst (λ (y : ℤ). T (nonNeg y) × Fits w32 (natAbs y)) (sym read) (tt, record { fits = omega (arith, m .within .most) })
 
   pub cell-is : natAbs (toZ w64 (ofZ w64 made)) ≡ natOf z
   cell-is = ap natAbs read

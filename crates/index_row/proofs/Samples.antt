@@ -55,9 +55,11 @@ all-bounded stretch n few (suc (suc (suc zero))) p q = total-bounded stretch 3 n
 all-bounded stretch n few (suc (suc (suc (suc zero)))) p q = total-bounded stretch 4 n few
 all-bounded stretch n few (suc (suc (suc (suc (suc k))))) p q = absurd (let z : ⊥ = omega arith in z)
 
-pub totals-bounded : (stretch : List ℕ) (n : ℕ) {totals : List Total} → totals ≡ totalsOf stretch n → n ≤ mostSamples → AllBounded n totals
+pub totals-bounded : (stretch : List ℕ) (n : ℕ) {totals : List Total} → totals ≡ totalsOf stretch n → n ≤ mostSamples
+    → AllBounded n totals
 totals-bounded stretch n e few = subst (AllBounded n) (sym e) (all-bounded stretch n few)
 
 -- the totals over a record's stretch are those over all its samples
-pub all-totals : (stretch : List ℕ) {totals : List Total} → length stretch ≤ 4 * mostSamples → totals ≡ totalsOf stretch (setCount stretch) → totals ≡ totalsOf stretch (samplesIn stretch)
+pub all-totals : (stretch : List ℕ) {totals : List Total} → length stretch ≤ 4 * mostSamples
+    → totals ≡ totalsOf stretch (setCount stretch) → totals ≡ totalsOf stretch (samplesIn stretch)
 all-totals stretch short e = e ∙ ap (totalsOf stretch) (omega arith)

@@ -1,5 +1,5 @@
-// The row of a record: the cells that the index keeps of it. FORMAT, "The index of seconds". Any bytes have one; the index asks for
-// that of accepted records.
+// The row of a record: the cells that the index keeps of it. FORMAT, "The index of seconds". Any bytes have one; the index asks
+// for that of accepted records.
 ghost use mathlib.Core.Path.{_≡_};
 ghost use mathlib.Core.List.{_∷_, _++_};
 ghost use Prim.Native.Nat.{_*_, _≤_, _<_};

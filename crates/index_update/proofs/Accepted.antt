@@ -23,7 +23,8 @@ use Rattle.index_update.proofs.Changing.{placed}
 row-below : (o : Opening) (n : ℕ) → isOutside o n ≡ false → n - 1 < o .«highest_number»
 row-below o n e = let r = in-range o n e in omega (arith, r .0, r .1)
 
-pub put-fits : (o : Opening) (b : List ℕ) (c : Buffers) → insertRefusal o b c ≡ 0 → WithinLimits o c × (numberOf b - 1 < o .«highest_number») × Placed o (secondOf b)
+pub put-fits : (o : Opening) (b : List ℕ) (c : Buffers) → insertRefusal o b c ≡ 0 → WithinLimits o c
+    × (numberOf b - 1 < o .«highest_number») × Placed o (secondOf b)
 unfolding insertRefusal
 put-fits o b c none =
     let checks =
@@ -33,8 +34,13 @@ put-fits o b c none =
     ∷ 18 when isFull o (numberOf b - 1) (secondOf b) c
     ∷ []
     in
-    let later = then-zero (openingRefusal o c) (first checks) (then-zero (recordRefusal b) (openingRefusal o c then first checks) none .1) in
-    (within-limits o c (later .0), row-below o _ (none-applies checks 1 tt (later .1)), placed o _ (not-false _ (none-applies checks 2 tt (later .1))))
+    let later = then-zero (openingRefusal o c) (first checks)
+    (then-zero (recordRefusal b) (openingRefusal o c then first checks) none .1) in (
+      within-limits o c (later .0),
+      row-below o _ (none-applies checks 1 tt (later .1)),
+      placed o _
+          (not-false _ (none-applies checks 2 tt (later .1))),
+    )
 
 pub take-fits : (o : Opening) (n : ℕ) (c : Buffers) → removeRefusal o n c ≡ 0 → WithinLimits o c × (n - 1 < o .«highest_number»)
 unfolding removeRefusal

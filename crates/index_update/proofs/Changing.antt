@@ -33,12 +33,14 @@ module _ (o : Opening) (rows : List ℕ) (was old : ℕ) (seconds : List ℕ) wh
   left-place : isLeft ≡ true → Placed o old
   left-place e = placed o old (holds (inWindow o old) (right (not (eqb was 0)) (inWindow o old) (held isLeft e)))
 
-  pub second-left : WithinLimits o (lent rows seconds) → isLeft ≡ true → blockPut seconds (placeOf o old) (anew (min (o .«highest_number») (length rows / width))) ≡ leave o rows was old seconds
+  pub second-left : WithinLimits o (lent rows seconds) → isLeft ≡ true
+      → blockPut seconds (placeOf o old) (anew (min (o .«highest_number») (length rows / width))) ≡ leave o rows was old seconds
   unfolding leave
   second-left limits e =
       let p = left-place e in
       (λ t. blockPut seconds (placeOf o old) (anew (all-rows rows (o .«highest_number») (limits .rows-long) t)))
-      ∙ block-put seconds (o .«second_count») (placeOf o old) (limits .seconds-long) (omega (arith, p .from, p .until)) (anew (o .«highest_number»))
+      ∙ block-put seconds (o .«second_count») (placeOf o old) (limits .seconds-long) (omega (arith, p .from, p .until))
+      (anew (o .«highest_number»))
       ∙ sym (λ t. cond (e t) (withBlock seconds (placeOf o old) (anew (o .«highest_number»))) seconds)
 
   pub none-left : isLeft ≡ false → seconds ≡ leave o rows was old seconds
@@ -47,7 +49,8 @@ module _ (o : Opening) (rows : List ℕ) (was old : ℕ) (seconds : List ℕ) wh
 
 -- the second at place k
 module _ (done : Bool) (seconds : List ℕ) (k : ℕ) (row : List ℕ) where
-  pub second-joined : width * k + width ≤ length seconds → done ≡ false → blockPut seconds k (merged (blockOrNone seconds k) row) ≡ join done seconds k row
+  pub second-joined : width * k + width ≤ length seconds → done ≡ false → blockPut seconds k (merged (blockOrNone seconds k) row)
+      ≡ join done seconds k row
   unfolding join
   second-joined h e =
       sym (held-put seconds k (merged (blockOrNone seconds k) row) (omega arith))

@@ -1,5 +1,5 @@
-// Records put into the index of seconds, and taken out. FORMAT, "The index of seconds", "Refusal numbers". Any bytes, any value of an
-// opening and any cells; a refusal changes no cell, and 0 is none.
+// Records put into the index of seconds, and taken out. FORMAT, "The index of seconds", "Refusal numbers". Any bytes, any value
+// of an opening and any cells; a refusal changes no cell, and 0 is none.
 ghost use mathlib.Core.Path.{_≡_};
 ghost use mathlib.Core.Bool.{not, _&&_};
 ghost use Prim.Native.Nat.{_+_, _-_, _*_, _≤_, _<_};

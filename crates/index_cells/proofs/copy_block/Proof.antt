@@ -1,5 +1,3 @@
--- `index_cells::copy_block` meets its contract. The loop's invariant: the first j cells of the part are those of the block.
--- Assumes nothing.
 use mathlib.Core.Path.{_≡_, refl, sym, _∙_}
 use Prim.Native.Nat.{ℕ, _-_, _≤_}
 use native.Mathlib.Omega.{arith}
@@ -20,34 +18,14 @@ abbrev μ-loop : tie.MeasureT-loop
 loop-holds : tie.Need-loop-holds Inv-loop μ-loop
 loop-holds c = (search needs, search needs, filled-none _ _ _)
 
-mul-part : tie.Need-mul-part Inv-loop μ-loop
-mul-part c = search needs
-
-array-read-part : tie.Need-array-read-part Inv-loop μ-loop
-array-read-part c = search needs
-
-mul-part-2 : tie.Need-mul-part-2 Inv-loop μ-loop
-mul-part-2 c = search needs
-
-slice-write-part : tie.Need-slice-write-part Inv-loop μ-loop
-slice-write-part c = search needs
-
-add-j : tie.Need-add-j Inv-loop μ-loop
-add-j c = search needs
-
-loop-less : tie.Need-loop-less Inv-loop μ-loop
-loop-less c = search needs
-
 loop-again : tie.Need-loop-again Inv-loop μ-loop
 loop-again c = (search needs, search needs, filled-more _ (search needs) refl (c .before .loop .inv .2))
-
-same-length : tie.Need-same-length Inv-loop μ-loop
-same-length c = search needs
 
 returns : tie.Need-returns Inv-loop μ-loop
 returns c =
     let block = c .before .before .args .t2 in
-    all-filled (omega arith) (search needs) (c .before .loop .inv .2) ∙ sym (tab-ext (λ (k : ℕ). getD block k 0) width 0 block (search needs) (λ k h. refl))
+    all-filled (omega arith) (search needs) (c .before .loop .inv .2)
+    ∙ sym (tab-ext (λ (k : ℕ). getD block k 0) width 0 block (search needs) (λ k h. refl))
 
 pub copy-block-spec : {M : Type 1} → statement M
 copy-block-spec =
@@ -56,12 +34,12 @@ copy-block-spec =
     Inv-loop
     μ-loop
     loop-holds
-    mul-part
-    array-read-part
-    mul-part-2
-    slice-write-part
-    add-j
-    loop-less
+    (λ c. search needs)
+    (λ c. search needs)
+    (λ c. search needs)
+    (λ c. search needs)
+    (λ c. search needs)
+    (λ c. search needs)
     loop-again
-    same-length
+    (λ c. search needs)
     returns)

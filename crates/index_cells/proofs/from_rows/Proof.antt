@@ -1,5 +1,3 @@
--- `index_cells::from_rows` meets its contract. The loop's invariant: the cells are those that the first i rows give.
--- Assumes nothing.
 use mathlib.Core.Path.{_≡_, ap, _∙_}
 use mathlib.Core.Bool.{cond}
 use Prim.Native.Nat.{_-_, _*_, _≤_}
@@ -20,15 +18,6 @@ abbrev μ-loop : tie.MeasureT-loop
 loop-holds : tie.Need-loop-holds Inv-loop μ-loop
 loop-holds c = (search needs, search needs, none-passed _ _)
 
-with-row-requires : tie.Need-with-row-requires Inv-loop μ-loop
-with-row-requires c κs = search needs
-
-add-i : tie.Need-add-i Inv-loop μ-loop
-add-i c = search needs
-
-loop-less : tie.Need-loop-less Inv-loop μ-loop
-loop-less c = search needs
-
 loop-again : tie.Need-loop-again Inv-loop μ-loop
 loop-again c =
     let a = c .before .before .before .before .args in
@@ -36,14 +25,16 @@ loop-again c =
       search needs,
       search needs,
       c .with-row .ensures
-          ∙ (λ t. cond (rowWithin (a .rows .now) (l .i) (a .second)) (merged (l .inv .2 t) (blockAt (a .rows .now) (l .i))) (l .inv .2 t))
+          ∙ (λ t. cond (rowWithin (a .rows .now) (l .i) (a .second)) (merged (l .inv .2 t) (blockAt (a .rows .now) (l .i)))
+          (l .inv .2 t))
           ∙ row-passed (a .rows .now) (a .second) (l .i),
     )
 
 returns : tie.Need-returns Inv-loop μ-loop
-returns c = let a = c .before .before .before .args in c .before .loop .inv .2 ∙ ap (secondFrom (a .rows .now) (a .second)) (omega arith)
+returns c =
+    let a = c .before .before .before .args in c .before .loop .inv .2 ∙ ap (secondFrom (a .rows .now) (a .second)) (omega arith)
 
 pub from-rows-spec : {M : Type 1} → statement M
 from-rows-spec =
     tie.close
-    (tie.spec Inv-loop μ-loop loop-holds with-row-requires add-i loop-less loop-again returns)
+    (tie.spec Inv-loop μ-loop loop-holds (λ c κs. search needs) (λ c. search needs) (λ c. search needs) loop-again returns)

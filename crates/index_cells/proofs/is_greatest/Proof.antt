@@ -1,4 +1,3 @@
--- `index_cells::is_greatest` meets its contract. Assumes nothing.
 use Rattle.index_model.specs.Cells.{isGreatest}
 use borrow.Author.Needs.{needs}
 use Rattle.index_cells.proofs.is_greatest.Statement.{statement}

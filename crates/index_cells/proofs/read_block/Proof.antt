@@ -1,5 +1,3 @@
--- `index_cells::read_block` meets its contract. The loop's invariant: the first j cells of the block are read.
--- Assumes nothing.
 use mathlib.Core.Path.{_≡_, refl, sym, _∙_}
 use Prim.Native.Nat.{_+_, _-_, _*_, _≤_}
 use native.Mathlib.Omega.{arith}
@@ -13,45 +11,25 @@ use Rattle.index_cells.proofs.read_block.Statement.{statement}
 use Rattle.index_cells.proofs.read_block.Tie as tie
 
 abbrev Inv-loop : tie.InvT-loop
-Inv-loop cells i block₀ start j₀ block j = (j ≤ width) × (start ≡ width * i) × (width * i + width ≤ length cells) × (length block₀ ≡ width) × Filled block₀ (cell cells i) 0 j block
+Inv-loop cells i block₀ start j₀ block j =
+    (j ≤ width) × (start ≡ width * i) × (width * i + width ≤ length cells) × (length block₀ ≡ width)
+    × Filled block₀ (cell cells i) 0 j block
 
 abbrev μ-loop : tie.MeasureT-loop
 μ-loop cells i block₀ start j₀ block j = width - j
 
-mul-start : tie.Need-mul-start Inv-loop μ-loop
-mul-start c = search needs
-
 loop-holds : tie.Need-loop-holds Inv-loop μ-loop
 loop-holds c = (search needs, refl, search needs, search needs, filled-none _ _ _)
 
-add-block : tie.Need-add-block Inv-loop μ-loop
-add-block c = search needs
-
-mul-block : tie.Need-mul-block Inv-loop μ-loop
-mul-block c = search needs
-
-shared-slice-read-block : tie.Need-shared-slice-read-block Inv-loop μ-loop
-shared-slice-read-block c = search needs
-
-mul-block-2 : tie.Need-mul-block-2 Inv-loop μ-loop
-mul-block-2 c = search needs
-
-array-write-block : tie.Need-array-write-block Inv-loop μ-loop
-array-write-block c = search needs
-
-add-j : tie.Need-add-j Inv-loop μ-loop
-add-j c = search needs
-
-loop-less : tie.Need-loop-less Inv-loop μ-loop
-loop-less c = search needs
-
 loop-again : tie.Need-loop-again Inv-loop μ-loop
-loop-again c = (search needs, refl, search needs, search needs, filled-more _ (search needs) refl (c .before .before .loop .inv .4))
+loop-again c =
+    (search needs, refl, search needs, search needs, filled-more _ (search needs) refl (c .before .before .loop .inv .4))
 
 returns : tie.Need-returns Inv-loop μ-loop
 returns c =
     let a = c .before .before .args in
-    all-filled (omega arith) (search needs) (c .before .loop .inv .4) ∙ sym (block-cells (a .cells .now) (a .i) (search needs) (cell (a .cells .now) (a .i)) (λ j h. refl))
+    all-filled (omega arith) (search needs) (c .before .loop .inv .4)
+    ∙ sym (block-cells (a .cells .now) (a .i) (search needs) (cell (a .cells .now) (a .i)) (λ j h. refl))
 
 pub read-block-spec : {M : Type 1} → statement M
 read-block-spec =
@@ -59,14 +37,14 @@ read-block-spec =
     (tie.spec
     Inv-loop
     μ-loop
-    mul-start
+    (λ c. search needs)
     loop-holds
-    add-block
-    mul-block
-    shared-slice-read-block
-    mul-block-2
-    array-write-block
-    add-j
-    loop-less
+    (λ c. search needs)
+    (λ c. search needs)
+    (λ c. search needs)
+    (λ c. search needs)
+    (λ c. search needs)
+    (λ c. search needs)
+    (λ c. search needs)
     loop-again
     returns)

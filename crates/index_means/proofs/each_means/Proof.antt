@@ -1,4 +1,3 @@
--- An array of four totals is the list of its four entries. Assumes nothing.
 use mathlib.Core.Path.{refl, sym, ap, _∙_}
 use mathlib.Core.List.{List, [], _∷_}
 use Prim.Native.Nat.{ℕ}
@@ -11,47 +10,25 @@ use Rattle.index_means.specs.Means.{eachMeans}
 use Rattle.index_means.proofs.each_means.Statement.{statement}
 use Rattle.index_means.proofs.each_means.Tie as tie
 
-array-copy-out-first : tie.Need-array-copy-out-first
-array-copy-out-first c = search needs
-
-array-copy-out-second : tie.Need-array-copy-out-second
-array-copy-out-second c = search needs
-
-array-copy-out-third : tie.Need-array-copy-out-third
-array-copy-out-third c = search needs
-
-array-copy-out-fourth : tie.Need-array-copy-out-fourth
-array-copy-out-fourth c = search needs
-
-means-of-requires : tie.Need-means-of-requires
-means-of-requires c κs = search needs
-
-means-of-requires-2 : tie.Need-means-of-requires-2
-means-of-requires-2 c κs = search needs
-
-means-of-requires-3 : tie.Need-means-of-requires-3
-means-of-requires-3 c κs = search needs
-
-means-of-requires-4 : tie.Need-means-of-requires-4
-means-of-requires-4 c κs = search needs
-
 returns : tie.Need-returns
 returns c =
     let a = c .before .before .before .before .before .before .before .before in
     let t = a .args .t1 in
-    (λ i. c .before .before .before .means-of .ensures i ∷ c .before .before .means-of2 .ensures i ∷ c .before .means-of3 .ensures i ∷ c .means-of4 .ensures i ∷ [])
-    ∙ ap (λ (l : List Total). eachMeans l (a .args .count)) (sym (tab-ext (λ (i : ℕ). getD t i noTotal) 4 noTotal t (a .good .0 .1 .0 .1) (λ i h. refl)))
+    (λ i. c .before .before .before .means-of .ensures i ∷ c .before .before .means-of2 .ensures i
+    ∷ c .before .means-of3 .ensures i ∷ c .means-of4 .ensures i ∷ [])
+    ∙ ap (λ (l : List Total). eachMeans l (a .args .count))
+    (sym (tab-ext (λ (i : ℕ). getD t i noTotal) 4 noTotal t (a .good .0 .1 .0 .1) (λ i h. refl)))
 
 pub each-means-spec : {M : Type 1} → statement M
 each-means-spec =
     tie.close
     (tie.spec
-    array-copy-out-first
-    array-copy-out-second
-    array-copy-out-third
-    array-copy-out-fourth
-    means-of-requires
-    means-of-requires-2
-    means-of-requires-3
-    means-of-requires-4
+    (λ c. search needs)
+    (λ c. search needs)
+    (λ c. search needs)
+    (λ c. search needs)
+    (λ c κs. search needs)
+    (λ c κs. search needs)
+    (λ c κs. search needs)
+    (λ c κs. search needs)
     returns)

@@ -1,4 +1,3 @@
--- No samples, or two divisions of numbers that are held exactly. Assumes nothing.
 use mathlib.Core.Path.{_≡_, sym, _∙_, subst}
 use lib.Dec.{T}
 use lib.IntN.{ℤ, pos}
@@ -16,14 +15,12 @@ use Rattle.index_means.proofs.means_of.Tie as tie
 sum-back : (c : tie.After-struct-told) → let z = c .before .before .before .args .total .sum in toZ w64 (ofZ w64 z) ≡ z
 sum-back c = toZ-ofZ w64 _ (record { sfits = c .struct-told .given .0 .1 })
 
-no-means-requires : tie.Need-no-means-requires
-no-means-requires c κs = search needs
-
 returns : tie.Need-returns
 returns c = c .no-means .ensures ∙ sym (means-none _ _ (c .before .if1 .taken))
 
 int-to-float-sum : tie.Need-int-to-float-sum
-int-to-float-sum c = subst (λ (z : ℤ). T (inFloat binary64 z)) (sym (sum-back c)) (cast-exact _ (c .before .before .before .pre .0 .sums))
+int-to-float-sum c =
+    subst (λ (z : ℤ). T (inFloat binary64 z)) (sym (sum-back c)) (cast-exact _ (c .before .before .before .pre .0 .sums))
 
 int-to-float-squares : tie.Need-int-to-float-squares
 int-to-float-squares c = cast-exact (pos _) (c .before .before .before .before .pre .0 .squared)
@@ -40,10 +37,4 @@ returns-2 c =
 pub means-of-spec : {M : Type 1} → statement M
 means-of-spec =
     tie.close
-    (tie.spec
-    no-means-requires
-    returns
-    int-to-float-sum
-    int-to-float-squares
-    int-to-float-samples
-    returns-2)
+    (tie.spec (λ c κs. search needs) returns int-to-float-sum int-to-float-squares int-to-float-samples returns-2)

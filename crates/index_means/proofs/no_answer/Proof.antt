@@ -1,4 +1,3 @@
--- A refusal's number, and means of 0 beside it. Assumes nothing.
 use mathlib.Core.Path.{_∙_}
 use mathlib.Core.List.{[], _∷_}
 use borrow.Author.Needs.{needs}
@@ -8,13 +7,10 @@ use Rattle.index_means.specs.Means.{noMeansEach}
 use Rattle.index_means.proofs.no_answer.Statement.{statement}
 use Rattle.index_means.proofs.no_answer.Tie as tie
 
-no-means-requires : tie.Need-no-means-requires
-no-means-requires c κs = search needs
-
 returns : tie.Need-returns
 returns c =
     let n = c .before .args .refusal in
     (λ t. let m = c .no-means .ensures t in told n (m ∷ m ∷ m ∷ m ∷ [])) ∙ told-none n noMeansEach (c .before .pre)
 
 pub no-answer-spec : {M : Type 1} → statement M
-no-answer-spec = tie.close (tie.spec no-means-requires returns)
+no-answer-spec = tie.close (tie.spec (λ c κs. search needs) returns)

@@ -1,4 +1,3 @@
--- `index_means::no_means` meets its contract. Assumes nothing.
 use mathlib.Core.Path.{refl}
 use lib.Ieee.{ofBits}
 use Rattle.index_means.proofs.no_means.Statement.{statement}

@@ -1,4 +1,3 @@
--- The means by what the question about the second answers. Assumes nothing.
 use mathlib.Core.Path.{ap, _∙_}
 use Rattle.answers.specs.Answer.{accepted}
 use Rattle.answers.proofs.Refusals.{unless-none, unless-some}
@@ -7,12 +6,6 @@ use Rattle.index_means.specs.Means.{eachMeans, noMeansEach, secondMeans,
 use borrow.Author.Needs.{needs}
 use Rattle.index_means.proofs.second_means.Statement.{statement}
 use Rattle.index_means.proofs.second_means.Tie as tie
-
-query-requires : tie.Need-query-requires
-query-requires c κs = search needs
-
-no-answer-requires : tie.Need-no-answer-requires
-no-answer-requires c κs = search needs
 
 returns : tie.Need-returns
 unfolding meansAnswer
@@ -23,12 +16,6 @@ returns c =
     c .no-answer .ensures
     ∙ unless-some (second .number) noMeansEach (secondMeans (a .o) (second .value)) (c .before .if1 .taken)
     ∙ ap (meansBy (a .o)) (ask .query .ensures .0)
-
-sample-count-requires : tie.Need-sample-count-requires
-sample-count-requires c κs = search needs
-
-each-means-requires : tie.Need-each-means-requires
-each-means-requires c κs = search needs
 
 returns-2 : tie.Need-returns-2
 unfolding meansAnswer
@@ -44,10 +31,4 @@ returns-2 c =
 pub second-means-spec : {M : Type 1} → statement M
 second-means-spec =
     tie.close
-    (tie.spec
-    query-requires
-    no-answer-requires
-    returns
-    sample-count-requires
-    each-means-requires
-    returns-2)
+    (tie.spec (λ c κs. search needs) (λ c κs. search needs) returns (λ c κs. search needs) (λ c κs. search needs) returns-2)

@@ -1,4 +1,3 @@
--- The test by the whole rows or seconds that the cells have. Assumes nothing.
 use Rattle.index_open.proofs.Tests.{fewer-cells}
 use Rattle.index_open.proofs.fewer_cells.Statement.{statement}
 use Rattle.index_open.proofs.fewer_cells.Tie as tie

@@ -1,15 +1,11 @@
--- The line of the held rate says it. Assumes nothing.
 use mathlib.Core.Path.{ap}
 use Rattle.sample_rates.specs.Rates.{recordsPerSecond}
 use borrow.Author.Needs.{needs}
 use Rattle.index_open.proofs.full_count.Statement.{statement}
 use Rattle.index_open.proofs.full_count.Tie as tie
 
-sample-rate-of-requires : tie.Need-sample-rate-of-requires
-sample-rate-of-requires c κs = search needs
-
 returns : tie.Need-returns
 returns c = ap recordsPerSecond (c .sample-rate-of .ensures)
 
 pub full-count-spec : {M : Type 1} → statement M
-full-count-spec = tie.close (tie.spec sample-rate-of-requires returns)
+full-count-spec = tie.close (tie.spec (λ c κs. search needs) returns)

@@ -1,4 +1,3 @@
--- The test by the difference from the first second. Assumes nothing.
 use Rattle.index_open.proofs.Tests.{before-window, from-window}
 use Rattle.index_open.proofs.in_window.Statement.{statement}
 use Rattle.index_open.proofs.in_window.Tie as tie

@@ -1,4 +1,3 @@
--- The test is the definition's. Assumes nothing.
 use mathlib.Core.Path.{refl}
 use Rattle.index_model.specs.Opening.{isOutside}
 use Rattle.index_open.proofs.is_outside.Statement.{statement}

@@ -10,7 +10,9 @@ use Rattle.index_open.proofs.open.Statement.{statement}
 use Rattle.index_open.proofs.open.Tie as tie
 
 -- where the code clears, there is no refusal
-none : (c : tie.Then1) → let a = c .before .before .before .before .before .before .before .before .args in openRefusal (now (a .pattern)) (a .first-second) (a .second-count) (a .highest-number) (lent (now (a .rows)) (now (a .seconds))) ≡ 0
+none : (c : tie.Then1)
+    → let a = c .before .before .before .before .before .before .before .before .args in openRefusal (now (a .pattern))
+    (a .first-second) (a .second-count) (a .highest-number) (lent (now (a .rows)) (now (a .seconds))) ≡ 0
 none c =
     let j = c .before in
     sym (judged _ _ _ _ _ (j .before .before .before .opening-of .ensures) (j .judge .ensures)) ∙ c .if1 .taken
@@ -40,10 +42,23 @@ returns c =
 returns-2 : tie.Need-returns-2
 returns-2 c =
     let j = c .before in
-    let kept = not-opened _ _ _ _ _ (judged _ _ _ _ _ (j .before .before .before .opening-of .ensures) (j .judge .ensures)) (c .if1 .left) in
+    let kept = not-opened _ _ _ _ _ (judged _ _ _ _ _ (j .before .before .before .opening-of .ensures) (j .judge .ensures))
+    (c .if1 .left) in
     (kept .0, (ap (λ (b : Buffers). b .rows) (kept .1), ap (λ (b : Buffers). b .seconds) (kept .1)))
 
 pub open-spec : {M : Type 1} → statement M
 open-spec =
     tie.close
-    (tie.spec (λ c κs. search needs) (λ c κs. search needs) mul-clear clear-requires mul-clear-2 clear-requires-2 (λ c. search needs) (λ c. search needs) returns (λ c. search needs) (λ c. search needs) returns-2)
+    (tie.spec
+    (λ c κs. search needs)
+    (λ c κs. search needs)
+    mul-clear
+    clear-requires
+    mul-clear-2
+    clear-requires-2
+    (λ c. search needs)
+    (λ c. search needs)
+    returns
+    (λ c. search needs)
+    (λ c. search needs)
+    returns-2)

@@ -24,4 +24,13 @@ returns c =
     || not (eqb (spc .read-field6 .ensures i) (o .spc))
 
 pub other-reel-spec : {M : Type 1} → statement M
-other-reel-spec = tie.close (tie.spec (λ c κs. search needs) (λ c κs. search needs) (λ c κs. search needs) (λ c κs. search needs) (λ c κs. search needs) (λ c κs. search needs) returns)
+other-reel-spec =
+    tie.close
+    (tie.spec
+    (λ c κs. search needs)
+    (λ c κs. search needs)
+    (λ c κs. search needs)
+    (λ c κs. search needs)
+    (λ c κs. search needs)
+    (λ c κs. search needs)
+    returns)

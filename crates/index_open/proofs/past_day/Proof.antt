@@ -1,4 +1,3 @@
--- Whatever C is. Assumes nothing.
 use Rattle.index_open.proofs.Tests.{past-day, past-count}
 use Rattle.index_open.proofs.past_day.Statement.{statement}
 use Rattle.index_open.proofs.past_day.Tie as tie

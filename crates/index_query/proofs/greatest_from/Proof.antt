@@ -9,4 +9,6 @@ returns : tie.Need-returns
 returns c = toZ-ofZ w8 (c .signed .result) (record { sfits = c .signed .ok }) ∙ c .signed .ensures
 
 pub greatest-from-spec : {M : Type 1} → statement M
-greatest-from-spec = tie.close (tie.spec (λ c. search needs) (λ c. search needs) (λ c. search needs) (λ c κs. search needs) returns)
+greatest-from-spec =
+    tie.close
+    (tie.spec (λ c. search needs) (λ c. search needs) (λ c. search needs) (λ c κs. search needs) returns)

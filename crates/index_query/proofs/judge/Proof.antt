@@ -11,7 +11,10 @@ unfolding queryRefusal
 returns c =
     let outside = c .before .before in
     c .first-refusal .ensures
-    ∙ (λ t. c .before .opening-refusal .ensures t then (outside .check .ensures ∙ (λ u. cond (not (outside .before .in-window .ensures u)) 17 0)) t)
+    ∙ (λ t. c .before .opening-refusal .ensures t then
+    (outside .check .ensures ∙ (λ u. cond (not (outside .before .in-window .ensures u)) 17 0)) t)
 
 pub judge-spec : {M : Type 1} → statement M
-judge-spec = tie.close (tie.spec (λ c κs. search needs) (λ c κs. search needs) (λ c κs. search needs) (λ c κs. search needs) returns)
+judge-spec =
+    tie.close
+    (tie.spec (λ c κs. search needs) (λ c κs. search needs) (λ c κs. search needs) (λ c κs. search needs) returns)

@@ -1,4 +1,3 @@
--- A refusal's number, and 0 beside it. Assumes nothing.
 use Rattle.answers.proofs.Refusals.{told-none}
 use Rattle.index_model.specs.Second.{noSecond}
 use borrow.Author.Needs.{needs}

@@ -1,4 +1,3 @@
--- `index_query::row_inside` meets its contract. Assumes nothing.
 use mathlib.Core.Path.{ap, _∙_}
 use mathlib.Core.Bool.{_||_}
 use lib.Dec.{eqb}
@@ -7,16 +6,10 @@ use borrow.Author.Needs.{needs}
 use Rattle.index_query.proofs.row_inside.Statement.{statement}
 use Rattle.index_query.proofs.row_inside.Tie as tie
 
-wide-requires : tie.Need-wide-requires
-wide-requires c κs = search needs
-
-in-window-requires : tie.Need-in-window-requires
-in-window-requires c κs = search needs
-
 returns : tie.Need-returns
 returns c =
     let a = c .before .before .args in
     λ t. eqb (a .held) 0 || (c .in-window .ensures ∙ ap (inWindow (a .o)) (c .before .wide .ensures .0)) t
 
 pub row-inside-spec : {M : Type 1} → statement M
-row-inside-spec = tie.close (tie.spec wide-requires in-window-requires returns)
+row-inside-spec = tie.close (tie.spec (λ c κs. search needs) (λ c κs. search needs) returns)

@@ -38,4 +38,16 @@ returns c =
     c .before .loop .inv .2 ∙ ap (rowsInside (a .o) (a .rows .now)) (omega arith)
 
 pub rows-inside-spec : {M : Type 1} → statement M
-rows-inside-spec = tie.close (tie.spec Inv-loop μ-loop loop-holds (λ c κs. search needs) (λ c κs. search needs) (λ c κs. search needs) (λ c. search needs) (λ c. search needs) loop-again returns)
+rows-inside-spec =
+    tie.close
+    (tie.spec
+    Inv-loop
+    μ-loop
+    loop-holds
+    (λ c κs. search needs)
+    (λ c κs. search needs)
+    (λ c κs. search needs)
+    (λ c. search needs)
+    (λ c. search needs)
+    loop-again
+    returns)

@@ -1,5 +1,3 @@
--- `index_query::same_cells` meets its contract. The loop's invariant: what is said is said of the first j cells.
--- Assumes nothing.
 use Prim.Native.Nat.{_-_, _≤_}
 use mathlib.Core.Path.{_≡_, ap, _∙_}
 use native.Mathlib.Omega.{arith}
@@ -20,24 +18,6 @@ loop-holds : tie.Need-loop-holds Inv-loop μ-loop
 unfolding sameTo
 loop-holds c = search needs
 
-mul-equal : tie.Need-mul-equal Inv-loop μ-loop
-mul-equal c = search needs
-
-array-read-equal : tie.Need-array-read-equal Inv-loop μ-loop
-array-read-equal c = search needs
-
-mul-equal-2 : tie.Need-mul-equal-2 Inv-loop μ-loop
-mul-equal-2 c = search needs
-
-array-read-equal-2 : tie.Need-array-read-equal-2 Inv-loop μ-loop
-array-read-equal-2 c = search needs
-
-add-j : tie.Need-add-j Inv-loop μ-loop
-add-j c = search needs
-
-loop-less : tie.Need-loop-less Inv-loop μ-loop
-loop-less c = search needs
-
 loop-again : tie.Need-loop-again Inv-loop μ-loop
 loop-again c = (search needs, same-more _ _ _ _ (c .before .loop .inv .1))
 
@@ -51,11 +31,11 @@ same-cells-spec =
     Inv-loop
     μ-loop
     loop-holds
-    mul-equal
-    array-read-equal
-    mul-equal-2
-    array-read-equal-2
-    add-j
-    loop-less
+    (λ c. search needs)
+    (λ c. search needs)
+    (λ c. search needs)
+    (λ c. search needs)
+    (λ c. search needs)
+    (λ c. search needs)
     loop-again
     returns)

@@ -1,4 +1,3 @@
--- `index_query::sample_count` meets its contract. Assumes nothing.
 use Prim.Native.Nat.{_*_}
 use native.Mathlib.Omega.{arith}
 use Rattle.sample_rates.specs.Rates.{samplesPerRecord}
@@ -6,12 +5,6 @@ use Rattle.index_query.proofs.Decoding.{count-most}
 use borrow.Author.Needs.{needs}
 use Rattle.index_query.proofs.sample_count.Statement.{statement}
 use Rattle.index_query.proofs.sample_count.Tie as tie
-
-sample-rate-of-requires : tie.Need-sample-rate-of-requires
-sample-rate-of-requires c κs = search needs
-
-wide-requires : tie.Need-wide-requires
-wide-requires c κs = search needs
 
 mul-result : tie.Need-mul-result
 mul-result c =
@@ -26,4 +19,4 @@ returns c =
     )
 
 pub sample-count-spec : {M : Type 1} → statement M
-sample-count-spec = tie.close (tie.spec sample-rate-of-requires wide-requires mul-result returns)
+sample-count-spec = tie.close (tie.spec (λ c κs. search needs) (λ c κs. search needs) mul-result returns)

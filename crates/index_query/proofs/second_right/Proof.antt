@@ -15,4 +15,6 @@ returns c =
     ∙ second-same (a .args .o) (lent (a .args .rows .now) (a .args .seconds .now)) (a .args .k) (search needs) (a .pre .0)
 
 pub second-right-spec : {M : Type 1} → statement M
-second-right-spec = tie.close (tie.spec (λ c. search needs) (λ c κs. search needs) (λ c κs. search needs) (λ c κs. search needs) returns)
+second-right-spec =
+    tie.close
+    (tie.spec (λ c. search needs) (λ c κs. search needs) (λ c κs. search needs) (λ c κs. search needs) returns)

@@ -21,7 +21,8 @@ bounded s = s .pre .2 (s .args .channel) (s .pre .0) (s .pre .1)
 low : (c : tie.After-struct-told2) → SFits w8 (total (c .before .before .before .before .before .before) .least)
 low c = record { sfits = c .struct-told2 .given .1 .1 .0 .1 }
 
-high : (c : tie.After-struct-told3) → SFits w8 (total (c .before .before .before .before .before .before .before .before) .greatest)
+high : (c : tie.After-struct-told3)
+    → SFits w8 (total (c .before .before .before .before .before .before .before .before) .greatest)
 high c = record { sfits = c .struct-told3 .given .1 .1 .1 .0 .1 }
 
 mul-sum : tie.Need-mul-sum
@@ -61,7 +62,8 @@ returns : tie.Need-returns
 returns c =
     let l = c .before .before in
     let s = l .before .before .before .before .before .before in
-    λ i. cell-is (sum-made _ _ (bounded s)) i ∷ total s .squares ∷ cell-is (least-made _ (low l)) i ∷ cell-is (greatest-made _ (high c)) i ∷ []
+    λ i. cell-is (sum-made _ _ (bounded s)) i ∷ total s .squares ∷ cell-is (least-made _ (low l)) i
+    ∷ cell-is (greatest-made _ (high c)) i ∷ []
 
 pub channel-cells-spec : {M : Type 1} → statement M
 channel-cells-spec =

@@ -1,4 +1,3 @@
--- By the bit. Assumes nothing.
 use mathlib.Core.Path.{ap, sym}
 use borrow.Author.Tests.{eq-eqb, ne-eqb}
 use Rattle.index_model.specs.Cells.{flag}

@@ -22,7 +22,9 @@ returns c =
     let origin = error .before .before in
     let bit : ℕ → ℕ = λ (n : ℕ). flag (eqb n 1) in
     c .stretch-row .ensures
-    ∙ (λ i. 1 ∷ (origin .flag-cell .ensures ∙ ap bit (origin .before .read-field .ensures)) i ∷ (error .flag-cell2 .ensures ∙ ap bit (error .before .read-field2 .ensures)) i ∷ second .second-of .ensures .0 i ∷ stretchCells (stretch .sample-stretch .ensures i))
+    ∙ (λ i. 1 ∷ (origin .flag-cell .ensures ∙ ap bit (origin .before .read-field .ensures)) i
+    ∷ (error .flag-cell2 .ensures ∙ ap bit (error .before .read-field2 .ensures)) i ∷ second .second-of .ensures .0 i
+    ∷ stretchCells (stretch .sample-stretch .ensures i))
 
 pub row-of-spec : {M : Type 1} → statement M
 row-of-spec =

@@ -10,8 +10,11 @@ use Rattle.index_row.proofs.second_of.Tie as tie
 
 returns : tie.Need-returns
 unfolding secondOf
-returns c =
-    (ap (λ (tag : ℕ). tag / secondMs) (c .read-field .ensures), omega (arith, c .read-field .ensures, tag-small (now (c .before .before .args .bytes))))
+returns c = (
+  ap (λ (tag : ℕ). tag / secondMs) (c .read-field .ensures),
+  omega
+      (arith, c .read-field .ensures, tag-small (now (c .before .before .args .bytes))),
+)
 
 pub second-of-spec : {M : Type 1} → statement M
 second-of-spec = tie.close (tie.spec (λ c κs. search needs) returns)

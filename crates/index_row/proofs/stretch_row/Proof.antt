@@ -36,7 +36,9 @@ returns c =
     let t = one .before in
     let a = t .before .before .args in
     c .row-from .ensures
-    ∙ (λ i. 1 ∷ a .origin ∷ a .error ∷ a .second ∷ cells t 1 (one .channel-cells .ensures) i ++ (cells t 2 (two .channel-cells2 .ensures) i ++ (cells t 3 (three .channel-cells3 .ensures) i ++ cells t 4 (four .channel-cells4 .ensures) i)))
+    ∙ (λ i. 1 ∷ a .origin ∷ a .error ∷ a .second ∷ cells t 1 (one .channel-cells .ensures) i
+    ++ (cells t 2 (two .channel-cells2 .ensures) i
+    ++ (cells t 3 (three .channel-cells3 .ensures) i ++ cells t 4 (four .channel-cells4 .ensures) i)))
 
 pub stretch-row-spec : {M : Type 1} → statement M
 stretch-row-spec =

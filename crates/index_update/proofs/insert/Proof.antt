@@ -15,8 +15,13 @@ insert-row-requires c κs =
     let number = second .before in
     let a = number .before .before .before .before .args in
     let place = c .before .before .row-place .ensures ∙ ap (λ (n : ℕ). n - 1) (number .read-field .ensures) in
-    let fits = put-fits (a .o) (a .bytes .now) (lent (a .rows .now) (a .seconds .now)) (sym (j .judge-insert .ensures) ∙ c .before .before .before .before .if1 .taken) in
-    (fits .0, subst (λ (i : ℕ). i < a .o .«highest_number») (sym place) (fits .1), subst (Placed (a .o)) (sym (second .second-of .ensures .0)) (fits .2))
+    let fits = put-fits (a .o) (a .bytes .now) (lent (a .rows .now) (a .seconds .now))
+    (sym (j .judge-insert .ensures) ∙ c .before .before .before .before .if1 .taken) in (
+      fits .0,
+      subst (λ (i : ℕ). i < a .o .«highest_number») (sym place) (fits .1),
+      subst (Placed (a .o))
+          (sym (second .second-of .ensures .0)) (fits .2),
+    )
 
 returns : tie.Need-returns
 returns c =
@@ -29,8 +34,15 @@ returns c =
     let lents = lent (a .rows .now) (a .seconds .now) in
     let none = sym (j .judge-insert .ensures) ∙ row .before .if1 .taken in
     let place = r .before .before .before .row-place .ensures ∙ ap (λ (n : ℕ). n - 1) (number .read-field .ensures) in
-    let all = (λ t. rowInserted (a .o) (place t) (second .second-of .ensures .0 t) (row .row-of .ensures t) lents) ∙ put-done (a .o) (a .bytes .now) lents none in
-    (sym none, (r .insert-row .ensures .0 ∙ ap (λ (b : Buffers). b .rows) all, r .insert-row .ensures .1 ∙ ap (λ (b : Buffers). b .seconds) all))
+    let all = (λ t. rowInserted (a .o) (place t) (second .second-of .ensures .0 t) (row .row-of .ensures t) lents)
+    ∙ put-done (a .o) (a .bytes .now) lents none in (
+      sym none,
+      (
+        r .insert-row .ensures .0 ∙ ap (λ (b : Buffers). b .rows) all,
+        r .insert-row .ensures .1
+            ∙ ap (λ (b : Buffers). b .seconds) all,
+      ),
+    )
 
 returns-2 : tie.Need-returns-2
 returns-2 c =

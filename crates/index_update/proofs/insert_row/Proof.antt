@@ -9,8 +9,12 @@ unfolding secondsInserted
 returns c =
     let r = c .before .before .before .before .before .before .before .before .before in
     let w = r .before .before .before in
-    let a = w .before .before .before .before .args in
-    (r .replace-row .ensures .0, c .before .before .join-second .ensures ∙ (λ t. join (w .row-within .ensures t) (r .replace-row .ensures .1 t) (c .before .before .before .before .place-of .ensures t) (a .row)))
+    let a = w .before .before .before .before .args in (
+      r .replace-row .ensures .0,
+      c .before .before .join-second .ensures
+          ∙ (λ t. join (w .row-within .ensures t) (r .replace-row .ensures .1 t)
+          (c .before .before .before .before .place-of .ensures t) (a .row)),
+    )
 
 pub insert-row-spec : {M : Type 1} → statement M
 insert-row-spec =

@@ -10,7 +10,15 @@ use Rattle.index_update.proofs.is_full.Statement.{statement}
 use Rattle.index_update.proofs.is_full.Tie as tie
 
 add-result : tie.Need-add-result
-add-result c = record { fits = omega (arith, full-most (c .before .before .before .before .before .before .before .args .o), c .full-count .ensures, c .before .before .before .one-if .ensures .1) }
+add-result c =
+    record {
+      fits = omega (
+        arith,
+        full-most (c .before .before .before .before .before .before .before .args .o),
+        c .full-count .ensures,
+        c .before .before .before .one-if .ensures .1,
+      );
+    }
 
 returns : tie.Need-returns
 unfolding isFull

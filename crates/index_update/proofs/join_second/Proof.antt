@@ -15,7 +15,8 @@ returns-2 c =
     let e = m .before .before .before .before in
     let a = e .before .before in
     c .before .before .put-block .ensures
-    ∙ (λ t. blockPut (a .args .seconds .now) (a .args .place) ((m .merged-cells .ensures ∙ (λ u. merged (m .before .before .block .ensures u) (a .args .row))) t))
+    ∙ (λ t. blockPut (a .args .seconds .now) (a .args .place)
+    ((m .merged-cells .ensures ∙ (λ u. merged (m .before .before .block .ensures u) (a .args .row))) t))
     ∙ second-joined (a .args .anew) (a .args .seconds .now) (a .args .place) (a .args .row) (a .pre) (e .if1 .left)
 
 pub join-second-spec : {M : Type 1} → statement M

@@ -20,13 +20,18 @@ returns c =
     let place = room .before .before in
     let s = place .before .before .before .before in
     let o = s .args .o in
-    let full = room .before .is-full .ensures ∙ (λ t. isFull o ((place .row-place .ensures ∙ ap (λ (n : ℕ). n - 1) (s .pre .0)) t) (s .pre .1 t) (lent (s .args .rows .now) (s .args .seconds .now))) in
+    let full = room .before .is-full .ensures
+    ∙ (λ t. isFull o ((place .row-place .ensures ∙ ap (λ (n : ℕ). n - 1) (s .pre .0)) t) (s .pre .1 t)
+    (lent (s .args .rows .now) (s .args .seconds .now))) in
     let eighteen = room .check .ensures ∙ (λ t. cond (full t) 18 0) in
-    let seventeen = window .check2 .ensures ∙ (λ t. cond (not ((window .before .in-window .ensures ∙ ap (inWindow o) (s .pre .1)) t)) 17 (eighteen t)) in
-    let sixteen = number .check3 .ensures ∙ (λ t. cond ((number .before .is-outside .ensures ∙ ap (isOutside o) (s .pre .0)) t) 16 (seventeen t)) in
+    let seventeen = window .check2 .ensures
+    ∙ (λ t. cond (not ((window .before .in-window .ensures ∙ ap (inWindow o) (s .pre .1)) t)) 17 (eighteen t)) in
+    let sixteen = number .check3 .ensures
+    ∙ (λ t. cond ((number .before .is-outside .ensures ∙ ap (isOutside o) (s .pre .0)) t) 16 (seventeen t)) in
     let fifteen = reel .check4 .ensures ∙ (λ t. cond (reel .before .other-reel .ensures t) 15 (sixteen t)) in
     c .first-refusal2 .ensures
-    ∙ (λ t. c .before .refusal-of .ensures t then (limits .first-refusal .ensures ∙ (λ u. limits .before .opening-refusal .ensures u then fifteen u)) t)
+    ∙ (λ t. c .before .refusal-of .ensures t then
+    (limits .first-refusal .ensures ∙ (λ u. limits .before .opening-refusal .ensures u then fifteen u)) t)
 
 pub judge-insert-spec : {M : Type 1} → statement M
 judge-insert-spec =

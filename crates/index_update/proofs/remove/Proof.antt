@@ -11,7 +11,8 @@ replace-row-requires : tie.Need-replace-row-requires
 replace-row-requires c κs =
     let j = c .before .before .before .before in
     let a = j .before .before .before .before .before .args in
-    let fits = take-fits (a .o) (a .number) (lent (a .rows .now) (a .seconds .now)) (sym (j .judge-remove .ensures) ∙ c .before .before .before .if1 .taken) in
+    let fits = take-fits (a .o) (a .number) (lent (a .rows .now) (a .seconds .now))
+    (sym (j .judge-remove .ensures) ∙ c .before .before .before .if1 .taken) in
     (fits .0, subst (λ (i : ℕ). i < a .o .«highest_number») (sym (c .before .before .row-place .ensures)) (fits .1))
 
 returns : tie.Need-returns
@@ -23,8 +24,14 @@ returns c =
     let a = j .before .before .before .before .before .args in
     let lents = lent (a .rows .now) (a .seconds .now) in
     let none = sym (j .judge-remove .ensures) ∙ place .before .if1 .taken in
-    let all = (λ t. rowRemoved (a .o) (place .row-place .ensures t) lents) ∙ take-done (a .o) (a .number) lents none in
-    (sym none, (r .replace-row .ensures .0 ∙ ap (λ (b : Buffers). b .rows) all, r .replace-row .ensures .1 ∙ ap (λ (b : Buffers). b .seconds) all))
+    let all = (λ t. rowRemoved (a .o) (place .row-place .ensures t) lents) ∙ take-done (a .o) (a .number) lents none in (
+      sym none,
+      (
+        r .replace-row .ensures .0 ∙ ap (λ (b : Buffers). b .rows) all,
+        r .replace-row .ensures .1
+            ∙ ap (λ (b : Buffers). b .seconds) all,
+      ),
+    )
 
 returns-2 : tie.Need-returns-2
 returns-2 c =
