@@ -15,7 +15,8 @@ use Rattle.bits.specs.Steps.{Stored, mix}
 use Rattle.lists.proofs.Order.{le-or-lt}
 
 pub stored-none : (a n x m : ℕ) (b : List ℕ) → m ≡ n → Stored a n x m b b
-stored-none a n x m b e = record { same = refl; inside = λ k p q. absurd (not-suc-le-zero {n = 0} (omega arith)); outside = λ i p. refl }
+stored-none a n x m b e =
+    record { same = refl; inside = λ k p q. absurd (not-suc-le-zero {n = 0} (omega arith)); outside = λ i p. refl }
 
 pub stored-more : (a n x m v : ℕ) (b c : List ℕ) → m < n → v ≡ x / 2 ^ (8 * (n - 1 - m)) % 256 → Stored a n x (m + 1) b c
     → Stored a n x m b (set c (a + m) v)
@@ -62,11 +63,13 @@ mixed-at x t w v hx h =
     let e : c + (t + w) ≡ 64 = omega arith in
     let e' : c + w + t ≡ 64 = omega arith in
     let small : top < 2 ^ c = shr-lt {n = x} c (t + w) (subst (λ (z : ℕ). x < 2 ^ z) (sym e) hx) in
-    let upper : top * p + v % p < 2 ^ (c + w) = subst (λ (z : ℕ). top * p + v % p < z) (sym (pow-add 2 c w)) (digits-lt small (mod-lt v (pow-pos w))) in
+    let upper : top * p + v % p < 2 ^ (c + w) =
+    subst (λ (z : ℕ). top * p + v % p < z) (sym (pow-add 2 c w)) (digits-lt small (mod-lt v (pow-pos w))) in
     let all : (top * p + v % p) * q + x % q < 2 ^ (c + w + t) =
     subst (λ (z : ℕ). (top * p + v % p) * q + x % q < z) (sym (pow-add 2 (c + w) t)) (digits-lt upper (mod-lt x (pow-pos t))) in
     let fits : (top * p + v % p) * q + x % q < 2 ^ 64 = subst (λ (z : ℕ). (top * p + v % p) * q + x % q < 2 ^ z) e' all in
-    let split : (top * p + y % p) * q ≡ y * q = ap (λ (z : ℕ). z * q) (ap (λ (z : ℕ). z * p + y % p) (sym (shr-shr x t w)) ∙ div-add-mod' y p) in
+    let split : (top * p + y % p) * q ≡ y * q =
+    ap (λ (z : ℕ). z * q) (ap (λ (z : ℕ). z * p + y % p) (sym (shr-shr x t w)) ∙ div-add-mod' y p) in
     let old : top * p * q + y % p * q ≡ y * q = sym (add-mul (top * p) (y % p) q) ∙ split in
     let new : (top * p + v % p) * q ≡ top * p * q + v % p * q = add-mul (top * p) (v % p) q in
     let whole : y * q + x % q ≡ x = div-add-mod' x q in
@@ -94,7 +97,8 @@ mix-num f h o d w t v =
     let top : x / 2 ^ (t + w) ≡ num g o d =
     ap (λ (z : ℕ). num f o z / 2 ^ (t + w)) e ∙ num-high f h o d (t + w) ∙ sym (num-put-left (o + d) w v f o d (omega arith)) in
     let mid : v % 2 ^ w ≡ num g (o + d) w = sym (num-put (o + d) w v f) in
-    let lo : x % 2 ^ t ≡ num g (o + (d + w)) t = num-low f h o (d + w) t ∙ sym (num-put-right (o + d) w v f (o + (d + w)) t (omega arith)) in
+    let lo : x % 2 ^ t ≡ num g (o + (d + w)) t =
+    num-low f h o (d + w) t ∙ sym (num-put-right (o + d) w v f (o + (d + w)) t (omega arith)) in
     ap (λ (z : ℕ). (z * 2 ^ w + v % 2 ^ w) * 2 ^ t + x % 2 ^ t) top
     ∙ ap (λ (z : ℕ). (num g o d * 2 ^ w + z) * 2 ^ t + x % 2 ^ t) mid
     ∙ ap (λ (z : ℕ). (num g o d * 2 ^ w + num g (o + d) w) * 2 ^ t + z) lo
@@ -149,5 +153,6 @@ pub done : (s w v m x : ℕ) (b c : List ℕ) → ((k : ℕ) → getD b k 0 < 25
     → Stored (s / 8) ((s % 8 + w + 7) / 8) m 0 b c → c ≡ setBits s w v b
 done s w v m x b c h q ex em o =
     let n : ℕ = (s % 8 + w + 7) / 8 in
-    let e : m ≡ mix (getBits (8 * (s / 8)) (8 * n) b) (n * 8 - (s % 8 + w)) w v = em ∙ ap (λ (z : ℕ). mix z (n * 8 - (s % 8 + w)) w v) ex in
+    let e : m ≡ mix (getBits (8 * (s / 8)) (8 * n) b) (n * 8 - (s % 8 + w)) w v =
+    em ∙ ap (λ (z : ℕ). mix z (n * 8 - (s % 8 + w)) w v) ex in
     all-stored s w v n b c h (omega arith) (omega arith) (subst (λ (z : ℕ). Stored (s / 8) n z 0 b c) e o)

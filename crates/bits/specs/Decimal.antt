@@ -1,4 +1,4 @@
--- Binary coded decimal: decimal digits of four bits each, the most significant first (01's "BCD digits").
+-- Binary coded decimal: decimal digits of four bits each, the most significant first. FORMAT, "The record".
 use Prim.Native.Nat.{ℕ, zero, suc, _+_, _*_, _/_, _%_}
 use mathlib.Core.Bool.{Bool, true, _&&_}
 use lib.Dec.{leb}

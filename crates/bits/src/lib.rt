@@ -2,7 +2,6 @@
 // Bits past the last byte read as 0 and are not written, so no caller has to know the length first.
 ghost use mathlib.Core.Path.{_≡_};
 ghost use Prim.Native.Nat.{_+_, _-_, _*_, _/_, _%_, _^_, _≤_, _<_, min};
-ghost use lib.Dec.{ltb};
 ghost use lib.ListN.{getD, set};
 ghost use Rattle.bits.specs.Bits.{getBits, setBits, widest};
 ghost use Rattle.bits.specs.Decimal.{decimalValue, digits, coded, mostDigits};
@@ -128,16 +127,6 @@ pub fn write_bits(bytes: &mut [u8], start: usize, width: usize, value: u64)
     ensures { λ _. ⌜ now (bytes .exit) ≡ setBits start (min width widest) value (now (bytes .entry)) ⌝ }
 {
     put_field(bytes, start, lists::lesser(width, WIDEST), value);
-}
-
-// Whether `value` has at most `width` bits.
-pub fn fits_bits(value: u64, width: usize) -> bool
-    ensures { λ r. ⌜ r ≡ ltb value (2 ^ width) ⌝ }
-{
-    if width < 64 {
-        return value < two_to(width);
-    }
-    true
 }
 
 // The number that the last `count` digits of `code` say.

@@ -22,7 +22,8 @@ use Rattle.fields.specs.Field.{wordOf, bitOf, start, width, isDecimal, d
 pub is-readable : (f : Field) → T (readable f) → Readable f
 is-readable f t =
     let words : T (leb 1 (wordOf f) && leb (wordOf f) 4000) = left (leb 1 (wordOf f) && leb (wordOf f) 4000) _ t in
-    let rest : T ((leb 1 (bitOf f) && leb (bitOf f) 16) && leb (width f) 56) = right (leb 1 (wordOf f) && leb (wordOf f) 4000) _ t in
+    let rest : T ((leb 1 (bitOf f) && leb (bitOf f) 16) && leb (width f) 56) =
+    right (leb 1 (wordOf f) && leb (wordOf f) 4000) _ t in
     let bits : T (leb 1 (bitOf f) && leb (bitOf f) 16) = left (leb 1 (bitOf f) && leb (bitOf f) 16) _ rest in
     record {
       first = leb→le 1 (wordOf f) (left (leb 1 (wordOf f)) _ words);

@@ -2,16 +2,14 @@
 -- changes nothing, and bits that no field names are kept. Assumes nothing.
 use Prim.Native.Nat.{ℕ, zero, suc, _+_, _*_, _≤_, _<_}
 use mathlib.Core.Path.{_≡_, refl, ap, sym, _∙_, subst}
-use mathlib.Core.Bool.{Bool, true, _&&_}
+use mathlib.Core.Bool.{Bool, _&&_}
 use mathlib.Core.List.{List, [], _∷_}
 use mathlib.Core.Logic.{_⊎_, inl, inr, ⊎-elim}
 use native.Mathlib.Omega.{arith}
 use native.Mathlib.Nat.{not-suc-le-zero, le-of-suc-le-suc}
 use lib.Dec.{T, leb, leb→le, le→leb}
-use lib.ListN.{length, getD, drop, List·getD-eq-default, drop-of-length-le}
-use lib.Seq.{drop-cons}
-use native.Mathlib.Numerals.{add-one}
-use Rattle.lists.proofs.Truth.{left, right, both, either, holds, and-true, and-assoc}
+use lib.ListN.{length, getD}
+use Rattle.lists.proofs.Truth.{left, right, both, either}
 use Rattle.bits.specs.Bits.{bitAt}
 use Rattle.fields.specs.declared.Field.{Field}
 use Rattle.fields.specs.Field.{none, start, width, valueOf, withValue, digitsGood, decimalFits, binaryFits, readable, wholeDigits}
@@ -44,12 +42,6 @@ apart-cases f g t =
     ⊎-elim (λ p. inl (leb→le (start f + width f) (start g) p)) (λ p. inr (leb→le (start g + width g) (start f) p))
     (either (leb (start f + width f) (start g)) (leb (start g + width g) (start f)) t)
 
--- each row of a sound table is readable
-pub test-at : (n : ℕ) (fs : List Field) (d : Field) (k : ℕ) → T (sound n fs) → k < length fs → readable (getD fs k d) ≡ true
-test-at n [] d k t h = absurd (not-suc-le-zero h)
-test-at n (f ∷ fs) d zero t h = holds (readable f) (sound-readable n f fs t)
-test-at n (f ∷ fs) d (suc k) t h = test-at n fs d k (sound-rest n f fs t) (le-of-suc-le-suc h)
-
 -- a longer run of bytes holds the table too
 pub sound-more : (m n : ℕ) (fs : List Field) → m ≤ n → T (sound m fs) → T (sound n fs)
 sound-more m n [] h t = tt
@@ -69,9 +61,6 @@ pub read-at : (fs : List Field) (b : List ℕ) (d : Field) (k : ℕ) → k < len
 read-at [] b d k h = absurd (not-suc-le-zero h)
 read-at (f ∷ fs) b d zero h = refl
 read-at (f ∷ fs) b d (suc k) h = read-at fs b d k (le-of-suc-le-suc h)
-
-pub read-past : (fs : List Field) (b : List ℕ) (k : ℕ) → length fs ≤ k → 0 ≡ getD (readAll fs b) k 0
-read-past fs b k h = sym (List·getD-eq-default (readAll fs b) 0 {n = k} (omega (arith, length-read fs b)))
 
 -- ## writing
 
@@ -167,32 +156,3 @@ bits-kept (f ∷ fs) (v ∷ vs) b i u = bits-kept fs vs (withValue f v b) i (u .
 pub past-unnamed : (n : ℕ) (fs : List Field) (i : ℕ) → T (sound n fs) → n ≤ i → unnamed i fs
 past-unnamed n [] i t h = tt
 past-unnamed n (f ∷ fs) i t h = (inr (omega (arith, sound-inside n f fs t)), past-unnamed n fs i (sound-rest n f fs t) h)
-
--- ## loops over a table, row by row
-
-module _ (fs : List Field) (vs : List ℕ) (k : ℕ) (hf : k < length fs) (hv : k < length vs) where
-  -- the rows from k on are row k and those after it
-  rows : drop k fs ≡ getD fs k none ∷ drop (k + 1) fs
-  rows = drop-cons fs k none hf ∙ ap (λ (n : ℕ). getD fs k none ∷ drop n fs) (sym (add-one k))
-
-  given : drop k vs ≡ getD vs k 0 ∷ drop (k + 1) vs
-  given = drop-cons vs k 0 hv ∙ ap (λ (n : ℕ). getD vs k 0 ∷ drop n vs) (sym (add-one k))
-
-  pub write-turn : (b : List ℕ) → writeAll (drop (k + 1) fs) (drop (k + 1) vs) (withValue (getD fs k none) (getD vs k 0) b) ≡ writeAll (drop k fs) (drop k vs) b
-  write-turn b = sym (λ i. writeAll (rows i) (given i) b)
-
-  pub fit-turn : (fits : Field → ℕ → Bool) (good : Bool)
-      → (good && fits (getD fs k none) (getD vs k 0)) && allFit fits (drop (k + 1) fs) (drop (k + 1) vs) ≡ good && allFit fits (drop k fs) (drop k vs)
-  fit-turn fits good =
-      and-assoc good (fits (getD fs k none) (getD vs k 0)) (allFit fits (drop (k + 1) fs) (drop (k + 1) vs))
-      ∙ sym (λ i. good && allFit fits (rows i) (given i))
-
-none-left : {A : Type 0} (l : List A) (k : ℕ) → length l ≡ k → drop k l ≡ []
-none-left l k e = drop-of-length-le l {i = k} (omega arith)
-
-pub write-ended : (fs : List Field) (vs b : List ℕ) (k : ℕ) → length fs ≡ k → writeAll (drop k fs) (drop k vs) b ≡ b
-write-ended fs vs b k e = λ i. writeAll (none-left fs k e i) (drop k vs) b
-
-pub fit-ended : (fits : Field → ℕ → Bool) (fs : List Field) (vs : List ℕ) (k : ℕ) (good : Bool) → length fs ≡ k → length vs ≡ k
-    → good && allFit fits (drop k fs) (drop k vs) ≡ good
-fit-ended fits fs vs k good e g = (λ i. good && allFit fits (none-left fs k e i) (none-left vs k g i)) ∙ and-true good

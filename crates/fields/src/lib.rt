@@ -1,7 +1,7 @@
 // One field of a header, read and written as its row of the format's table says. FORMAT, "The record".
 // A field that no format has, such as one of word 0 or of 60 bits, reads as 0 and is not written.
 ghost use mathlib.Core.Path.{_≡_};
-ghost use Rattle.fields.specs.Field.{start, encoded, valueOf, withValue, digitsGood, binaryFits, Readable, readable, readValue, writeValue, goodDigits};
+ghost use Rattle.fields.specs.Field.{start, encoded, valueOf, withValue, digitsGood, Readable, readable, readValue, writeValue, goodDigits};
 
 // A field: its word and first bit, both counted from 1, its width in bits, and whether it holds decimal digits.
 pub struct Field(pub usize, pub usize, pub usize, pub bool);
@@ -97,12 +97,4 @@ pub fn write_field(bytes: &mut [u8], f: Field, value: u64)
     if is_readable(f) {
         put_value(bytes, f, value);
     }
-}
-
-// Whether the value has no more bits than the field, if that is binary.
-pub fn fits_binary(f: Field, value: u64) -> bool
-    ensures { λ r. ⌜ r ≡ binaryFits f value ⌝ }
-{
-    let Field(_, _, width, decimal) = f;
-    decimal | bits::fits_bits(value, width)
 }

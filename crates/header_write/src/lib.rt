@@ -1,5 +1,5 @@
-// The values of a header, judged and written by the table of 1985. FORMAT, "The record". As in reading, every row is named: a leaf
-// whose row and place are literal is compiled to a few instructions, and one that takes its row from a table is not.
+// The values of a header, judged and written by the table of 1985. FORMAT, "The record". As in reading, every row is named: of
+// a literal row the compiler makes a few instructions, and of one from a table a call.
 ghost use mathlib.Core.Path.{_≡_};
 ghost use Rattle.fields.specs.Field.{binaryFits, decimalFits};
 ghost use Rattle.fields.specs.Table.{writeAll, allFit};

@@ -1,4 +1,4 @@
--- The recursion over the digits: the number of digits falls. Assumes nothing.
+-- The recursion over the digits: the number of digits falls.
 use native.Mathlib.Omega.{arith}
 use borrow.Author.Needs.{needs}
 use Prim.Native.Nat.{_-_, _/_, _+_, ℕ, _<_}
@@ -38,17 +38,23 @@ digits-code-digits-code-requires t c κs = omega (arith, c .before .pre .0, c .b
 digits-code-mul-result :
     (t : ℕ) →
     digits-code-lts.Need-mul-result (digits-code-below t, digits-code.Post) (digits-code-at t) digits-code.Post
-digits-code-mul-result t c = let a = c .before .before .args in omega (arith, c .digits-code .ensures, coded-small (a .count - 1) (a .value / 10) (omega (arith, c .before .before .pre .1)))
+digits-code-mul-result t c =
+    let a = c .before .before .args in
+    omega (arith, c .digits-code .ensures, coded-small (a .count - 1) (a .value / 10) (omega (arith, c .before .before .pre .1)))
 
 digits-code-add-result :
     (t : ℕ) →
     digits-code-lts.Need-add-result (digits-code-below t, digits-code.Post) (digits-code-at t) digits-code.Post
-digits-code-add-result t c = let a = c .before .before .args in omega (arith, c .digits-code .ensures, coded-small (a .count - 1) (a .value / 10) (omega (arith, c .before .before .pre .1)))
+digits-code-add-result t c =
+    let a = c .before .before .args in
+    omega (arith, c .digits-code .ensures, coded-small (a .count - 1) (a .value / 10) (omega (arith, c .before .before .pre .1)))
 
 digits-code-returns-2 :
     (t : ℕ) →
     digits-code-lts.Need-returns-2 (digits-code-below t, digits-code.Post) (digits-code-at t) digits-code.Post
-digits-code-returns-2 t c = let a = c .before .before .args in omega (arith, c .digits-code .ensures, coded-step (a .count) (a .value) (omega arith))
+digits-code-returns-2 t c =
+    let a = c .before .before .args in
+    omega (arith, c .digits-code .ensures, coded-step (a .count) (a .value) (omega arith))
 
 pub +digits-code-spec : {M : Type 1} → statement M
 +digits-code-spec =

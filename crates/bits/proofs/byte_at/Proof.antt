@@ -1,4 +1,3 @@
--- A byte, or 0 past the end. Assumes nothing.
 use mathlib.Core.Path.{sym}
 use lib.Dec.{lit<}
 use denote.Ref.{now}
@@ -7,17 +6,10 @@ use borrow.Author.Needs.{needs}
 use Rattle.bits.proofs.byte_at.Statement.{statement}
 use Rattle.bits.proofs.byte_at.Tie as tie
 
-shared-slice-read-wide : tie.Need-shared-slice-read-wide
-shared-slice-read-wide c = search needs
-
-wide-requires : tie.Need-wide-requires
-wide-requires c κs = search needs
-
-returns : tie.Need-returns
-returns c = search needs
-
 returns-2 : tie.Need-returns-2
-returns-2 c = (sym (List·getD-eq-default (now (c .before .before .args .bytes)) 0 {n = c .before .before .args .i} (search needs)), lit< tt)
+returns-2 c =
+    let a = c .before .before .args in
+    (sym (List·getD-eq-default (now (a .bytes)) 0 {n = a .i} (search needs)), lit< tt)
 
 pub byte-at-spec : {M : Type 1} → statement M
-byte-at-spec = tie.close (tie.spec shared-slice-read-wide wide-requires returns returns-2)
+byte-at-spec = tie.close (tie.spec (λ c. search needs) (λ c κs. search needs) (λ c. search needs) returns-2)

@@ -1,4 +1,3 @@
--- The count cut to the most digits. Assumes nothing.
 use Prim.Native.Nat.{ℕ}
 use mathlib.Core.Path.{ap, _∙_}
 use Rattle.bits.specs.Decimal.{decimalValue}
@@ -6,14 +5,8 @@ use borrow.Author.Needs.{needs}
 use Rattle.bits.proofs.decimal_value.Statement.{statement}
 use Rattle.bits.proofs.decimal_value.Tie as tie
 
-lesser-requires : tie.Need-lesser-requires
-lesser-requires c κs = search needs
-
-digits-value-requires : tie.Need-digits-value-requires
-digits-value-requires c κs = search needs
-
 returns : tie.Need-returns
 returns c = c .digits-value .ensures ∙ ap (λ (n : ℕ). decimalValue n (c .before .before .args .code)) (c .before .lesser .ensures)
 
 pub decimal-value-spec : {M : Type 1} → statement M
-decimal-value-spec = tie.close (tie.spec lesser-requires digits-value-requires returns)
+decimal-value-spec = tie.close (tie.spec (λ c κs. search needs) (λ c κs. search needs) returns)

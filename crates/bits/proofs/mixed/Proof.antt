@@ -10,8 +10,8 @@ use Rattle.bits.proofs.mixed.Lts as lts
 use Rattle.bits.proofs.two_to.Reads as two-to-reads
 
 all : (c : lts.After-two-to2 (two-to-reads.Asked, two-to-reads.Learnt) reads.Pre reads.Post)
-    → Mixed (c .before .before .args .old) (c .before .before .args .after) (c .before .before .args .width) (c .before .before .args .value)
-    (c .before .two-to .result) (c .two-to2 .result)
+    → Mixed (c .before .before .args .old) (c .before .before .args .after) (c .before .before .args .width)
+    (c .before .before .args .value) (c .before .two-to .result) (c .two-to2 .result)
 all c =
     let a = c .before .before .args in
     writes.mixed (a .old) (a .after) (a .width) (a .value) (c .before .two-to .result) (c .two-to2 .result)

@@ -1,4 +1,3 @@
--- A byte set, or nothing past the end. Assumes nothing.
 use mathlib.Core.Path.{sym}
 use denote.Ref.{now}
 use lib.Seq.{set-out}
@@ -6,17 +5,8 @@ use borrow.Author.Needs.{needs}
 use Rattle.bits.proofs.set_byte.Statement.{statement}
 use Rattle.bits.proofs.set_byte.Tie as tie
 
-slice-write-bytes : tie.Need-slice-write-bytes
-slice-write-bytes c = search needs
-
-same-length : tie.Need-same-length
-same-length c = search needs
-
-returns : tie.Need-returns
-returns c = search needs
-
 returns-2 : tie.Need-returns-2
 returns-2 c = sym (set-out (now (c .before .args .bytes)) (c .before .args .i) (c .before .args .byte) (search needs))
 
 pub set-byte-spec : {M : Type 1} → statement M
-set-byte-spec = tie.close (tie.spec slice-write-bytes same-length returns returns-2)
+set-byte-spec = tie.close (tie.spec (λ c. search needs) (λ c. search needs) (λ c. search needs) returns-2)

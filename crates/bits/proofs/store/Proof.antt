@@ -29,7 +29,8 @@ loop-again c =
     let k = l .loop .k in
     let back : k ≡ k - 1 + 1 = omega arith in
     let place : n - k ≡ n - 1 - (k - 1) = omega arith in
-    let byte = s .before .narrow .ensures ∙ ap (λ (z : ℕ). z % 256) (l .loop .inv .1) ∙ ap (λ (z : ℕ). x / 2 ^ (8 * z) % 256) place in (
+    let byte =
+    s .before .narrow .ensures ∙ ap (λ (z : ℕ). z % 256) (l .loop .inv .1) ∙ ap (λ (z : ℕ). x / 2 ^ (8 * z) % 256) place in (
       search needs,
       ap (λ (z : ℕ). z / 256) (l .loop .inv .1) ∙ rest-less x n k (search needs) (search needs),
       subst (λ (z : List ℕ). Stored (a .from) n x (k - 1) (now (a .bytes)) z) (sym (s .set-byte .ensures))

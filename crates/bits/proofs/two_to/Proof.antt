@@ -1,4 +1,3 @@
--- A power of two by a shift. Assumes nothing.
 use mathlib.Core.Path.{_≡_, sym, subst, _∙_, ap}
 use Prim.Native.Nat.{_*_, _<_, ℕ, _%_, _^_}
 use native.Mathlib.Nat.{mod-eq-of-lt, one-mul}
@@ -7,13 +6,11 @@ use borrow.Author.Needs.{needs}
 use Rattle.bits.proofs.two_to.Statement.{statement}
 use Rattle.bits.proofs.two_to.Tie as tie
 
-shl-result : tie.Need-shl-result
-shl-result c = search needs
-
 returns : tie.Need-returns
 returns c =
-    let e : 1 * 2 ^ c .args .k % 2 ^ 64 ≡ 2 ^ c .args .k = ap (λ (z : ℕ). z % 2 ^ 64) (one-mul (2 ^ c .args .k)) ∙ mod-eq-of-lt (pow-lt (c .pre)) in
+    let e : 1 * 2 ^ c .args .k % 2 ^ 64 ≡ 2 ^ c .args .k =
+    ap (λ (z : ℕ). z % 2 ^ 64) (one-mul (2 ^ c .args .k)) ∙ mod-eq-of-lt (pow-lt (c .pre)) in
     (e, subst (λ (z : ℕ). 0 < z) (sym e) (pow-pos (c .args .k)))
 
 pub two-to-spec : {M : Type 1} → statement M
-two-to-spec = tie.close (tie.spec shl-result returns)
+two-to-spec = tie.close (tie.spec (λ c. search needs) returns)

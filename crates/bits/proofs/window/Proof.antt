@@ -1,4 +1,4 @@
--- The loop over the bytes of a window: the invariant says the number made so far. Assumes nothing.
+-- The loop over the bytes of a window: the invariant says the number made so far.
 use mathlib.Core.Path.{_≡_, sym, _∙_, ap}
 use Prim.Native.Nat.{ℕ, _≤_, _*_, _-_}
 use denote.Ref.{now}
@@ -19,22 +19,16 @@ loop-holds : tie.Need-loop-holds Inv-loop μ-loop
 loop-holds c = (search needs, sym (none (8 * c .before .args .from) (now (c .before .args .bytes))))
 
 mul-x : tie.Need-mul-x Inv-loop μ-loop
-mul-x c = let l = c .before in let a = l .before .before .args in omega (arith, within 56 (8 * a .from) (8 * l .loop .k) (now (a .bytes)) (omega arith))
-
-add-byte-at : tie.Need-add-byte-at Inv-loop μ-loop
-add-byte-at c = search needs
-
-byte-at-requires : tie.Need-byte-at-requires Inv-loop μ-loop
-byte-at-requires c κs = search needs
+mul-x c =
+    let l = c .before in
+    let a = l .before .before .args in
+    omega (arith, within 56 (8 * a .from) (8 * l .loop .k) (now (a .bytes)) (omega arith))
 
 add-x : tie.Need-add-x Inv-loop μ-loop
-add-x c = let l = c .before .before in let a = l .before .before .args in omega (arith, within 56 (8 * a .from) (8 * l .loop .k) (now (a .bytes)) (omega arith))
-
-add-k : tie.Need-add-k Inv-loop μ-loop
-add-k c = search needs
-
-loop-less : tie.Need-loop-less Inv-loop μ-loop
-loop-less c = search needs
+add-x c =
+    let l = c .before .before in
+    let a = l .before .before .args in
+    omega (arith, within 56 (8 * a .from) (8 * l .loop .k) (now (a .bytes)) (omega arith))
 
 loop-again : tie.Need-loop-again Inv-loop μ-loop
 loop-again c =
@@ -53,14 +47,5 @@ pub window-spec : {M : Type 1} → statement M
 window-spec =
     tie.close
     (tie.spec
-    Inv-loop
-    μ-loop
-    loop-holds
-    mul-x
-    add-byte-at
-    byte-at-requires
-    add-x
-    add-k
-    loop-less
-    loop-again
-    returns)
+    Inv-loop μ-loop loop-holds mul-x (λ c. search needs) (λ c κs. search needs) add-x (λ c. search needs)
+    (λ c. search needs) loop-again returns)

@@ -1,4 +1,3 @@
--- The digits of a field. Assumes nothing.
 use mathlib.Core.Path.{_∙_}
 use denote.Ref.{now}
 use Rattle.fields.proofs.Steps.{digits-decimal, digits-binary}
@@ -6,22 +5,14 @@ use borrow.Author.Needs.{needs}
 use Rattle.fields.proofs.digits_of.Statement.{statement}
 use Rattle.fields.proofs.digits_of.Tie as tie
 
-first-bit-requires : tie.Need-first-bit-requires
-first-bit-requires c κs = search needs
-
-read-bits-requires : tie.Need-read-bits-requires
-read-bits-requires c κs = search needs
-
-decimal-digits-requires : tie.Need-decimal-digits-requires
-decimal-digits-requires c κs = search needs
-
 returns : tie.Need-returns
 returns c =
     let r = c .before in
     let start = r .before .before .before .before in
     let a = start .args in
     c .decimal-digits .ensures
-    ∙ digits-decimal (a .f) (start .pre) (now (a .bytes)) (r .before .first-bit .result) (r .read-bits .result) (r .before .first-bit .ensures) (r .read-bits .ensures .0) (r .before .before .if1 .taken)
+    ∙ digits-decimal (a .f) (start .pre) (now (a .bytes)) (r .before .first-bit .result) (r .read-bits .result)
+    (r .before .first-bit .ensures) (r .read-bits .ensures .0) (r .before .before .if1 .taken)
 
 returns-2 : tie.Need-returns-2
 returns-2 c = let a = c .before .before .args in digits-binary (a .f) (now (a .bytes)) (c .if1 .left)
@@ -29,4 +20,5 @@ returns-2 c = let a = c .before .before .args in digits-binary (a .f) (now (a .b
 pub digits-of-spec : {M : Type 1} → statement M
 digits-of-spec =
     tie.close
-    (tie.spec first-bit-requires read-bits-requires decimal-digits-requires returns returns-2)
+    (tie.spec
+    (λ c κs. search needs) (λ c κs. search needs) (λ c κs. search needs) returns returns-2)

@@ -1,4 +1,3 @@
--- A field that is readable, or none. Assumes nothing.
 use mathlib.Core.Path.{ap, sym, _∙_}
 use mathlib.Core.Bool.{Bool, cond}
 use denote.Ref.{now}
@@ -8,27 +7,17 @@ use Rattle.fields.proofs.OneField.{is-readable}
 use borrow.Author.Needs.{needs}
 use Rattle.fields.proofs.read_field.Statement.{statement}
 use Rattle.fields.proofs.read_field.Tie as tie
-use Rattle.fields.proofs.read_field.Reads as reads
-use Rattle.fields.proofs.read_field.Lts as lts
-use Rattle.fields.proofs.is_readable.Reads as is-readable-reads
-use Rattle.fields.proofs.value_of.Reads as value-of-reads
 
--- src/lib.rt:46:8
-is-readable-requires : tie.Need-is-readable-requires
-is-readable-requires c κs = search needs
-
--- src/lib.rt:47:9
 value-of-requires : tie.Need-value-of-requires
 value-of-requires c κs = is-readable _ (held _ (sym (c .before .is-readable .ensures) ∙ c .if1 .taken))
 
--- src/lib.rt:47:9
 returns : tie.Need-returns
 returns c =
     let r = c .before .before in
     let a = r .before .before .args in
-    c .value-of .ensures ∙ sym (ap (λ (t : Bool). cond t (valueOf (a .f) (now (a .bytes))) 0) (sym (r .is-readable .ensures) ∙ c .before .if1 .taken))
+    c .value-of .ensures
+    ∙ sym (ap (λ (t : Bool). cond t (valueOf (a .f) (now (a .bytes))) 0) (sym (r .is-readable .ensures) ∙ c .before .if1 .taken))
 
--- src/lib.rt:43:1
 returns-2 : tie.Need-returns-2
 returns-2 c =
     let r = c .before in
@@ -36,4 +25,4 @@ returns-2 c =
     sym (ap (λ (t : Bool). cond t (valueOf (a .f) (now (a .bytes))) 0) (sym (r .is-readable .ensures) ∙ c .if1 .left))
 
 pub read-field-spec : {M : Type 1} → statement M
-read-field-spec = tie.close (tie.spec is-readable-requires value-of-requires returns returns-2)
+read-field-spec = tie.close (tie.spec (λ c κs. search needs) value-of-requires returns returns-2)

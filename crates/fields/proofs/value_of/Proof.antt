@@ -1,4 +1,3 @@
--- A field read, decimal or binary. Assumes nothing.
 use mathlib.Core.Path.{_∙_}
 use denote.Ref.{now}
 use Rattle.fields.proofs.Steps.{read-decimal, read-binary}
@@ -6,31 +5,25 @@ use borrow.Author.Needs.{needs}
 use Rattle.fields.proofs.value_of.Statement.{statement}
 use Rattle.fields.proofs.value_of.Tie as tie
 
-first-bit-requires : tie.Need-first-bit-requires
-first-bit-requires c κs = search needs
-
-read-bits-requires : tie.Need-read-bits-requires
-read-bits-requires c κs = search needs
-
-decimal-value-requires : tie.Need-decimal-value-requires
-decimal-value-requires c κs = search needs
-
 returns : tie.Need-returns
 returns c =
     let r = c .before .before in
     let start = r .before .before .before in
     let a = start .args in
     c .decimal-value .ensures
-    ∙ read-decimal (a .f) (start .pre) (now (a .bytes)) (r .before .first-bit .result) (r .read-bits .result) (r .before .first-bit .ensures) (r .read-bits .ensures .0) (c .before .if1 .taken)
+    ∙ read-decimal (a .f) (start .pre) (now (a .bytes)) (r .before .first-bit .result) (r .read-bits .result)
+    (r .before .first-bit .ensures) (r .read-bits .ensures .0) (c .before .if1 .taken)
 
 returns-2 : tie.Need-returns-2
 returns-2 c =
     let r = c .before in
     let start = r .before .before .before in
     let a = start .args in
-    read-binary (a .f) (start .pre) (now (a .bytes)) (r .before .first-bit .result) (r .read-bits .result) (r .before .first-bit .ensures) (r .read-bits .ensures .0) (c .if1 .left)
+    read-binary (a .f) (start .pre) (now (a .bytes)) (r .before .first-bit .result) (r .read-bits .result)
+    (r .before .first-bit .ensures) (r .read-bits .ensures .0) (c .if1 .left)
 
 pub value-of-spec : {M : Type 1} → statement M
 value-of-spec =
     tie.close
-    (tie.spec first-bit-requires read-bits-requires decimal-value-requires returns returns-2)
+    (tie.spec
+    (λ c κs. search needs) (λ c κs. search needs) (λ c κs. search needs) returns returns-2)

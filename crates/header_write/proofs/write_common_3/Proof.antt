@@ -1,9 +1,12 @@
 use mathlib.Core.Path.{ap, _∙_}
 use Prim.Native.Nat.{ℕ, _+_}
 use mathlib.Core.List.{List}
-use lib.ListN.{getD}
+use denote.Ref.{now}
+use lib.ListN.{length, getD}
 use borrow.Author.Needs.{needs}
 use Rattle.fields.specs.Field.{none, withValue}
+use Rattle.fields.proofs.Tables.{length-write}
+use Rattle.header_parts.specs.Parts.{cells}
 use Rattle.header.specs.Format.{common3}
 use Rattle.header_write.proofs.write_common_3.Statement.{statement}
 use Rattle.header_write.proofs.write_common_3.Tie as tie
@@ -29,6 +32,14 @@ returns c =
     w2 .write-field2 .ensures ∙ ap (row 1) (
     w1 .write-field .ensures)))))))
 
+same-length : tie.Need-same-length
+same-length c =
+    let w7 = c .before .before .before .before .before .before in
+    let w4 = w7 .before .before .before .before .before .before .before .before .before .before .before .before in
+    let w1 = w4 .before .before .before .before .before .before .before .before .before .before .before .before in
+    let a = w1 .before .before .before .args in
+    ap length (returns c) ∙ length-write common3 (cells 16 8 (a .t2)) (now (a .bytes))
+
 pub write-common-3-spec : {M : Type 1} → statement M
 write-common-3-spec =
     tie.close
@@ -41,5 +52,5 @@ write-common-3-spec =
     (λ c. search needs) (λ c κs. search needs)
     (λ c. search needs) (λ c κs. search needs)
     (λ c. search needs) (λ c κs. search needs)
-    (λ c. search needs)
+    same-length
     returns)

@@ -1,9 +1,12 @@
 use mathlib.Core.Path.{ap, _∙_}
 use Prim.Native.Nat.{ℕ, _+_}
 use mathlib.Core.List.{List}
-use lib.ListN.{getD}
+use denote.Ref.{now}
+use lib.ListN.{length, getD}
 use borrow.Author.Needs.{needs}
 use Rattle.fields.specs.Field.{none, withValue}
+use Rattle.fields.proofs.Tables.{length-write}
+use Rattle.header_parts.specs.Parts.{cells}
 use Rattle.header.specs.Format.{own1985}
 use Rattle.header_write.proofs.write_own_1985.Statement.{statement}
 use Rattle.header_write.proofs.write_own_1985.Tie as tie
@@ -25,6 +28,14 @@ returns c =
     w2 .write-field2 .ensures ∙ ap (row 1) (
     w1 .write-field .ensures)))))
 
+same-length : tie.Need-same-length
+same-length c =
+    let w5 = c .before .before .before .before .before .before in
+    let w2 = w5 .before .before .before .before .before .before .before .before .before .before .before .before in
+    let w1 = w2 .before .before .before .before in
+    let a = w1 .before .before .before .args in
+    ap length (returns c) ∙ length-write own1985 (cells 40 6 (a .t2)) (now (a .bytes))
+
 pub write-own-1985-spec : {M : Type 1} → statement M
 write-own-1985-spec =
     tie.close
@@ -35,5 +46,5 @@ write-own-1985-spec =
     (λ c. search needs) (λ c κs. search needs)
     (λ c. search needs) (λ c κs. search needs)
     (λ c. search needs) (λ c κs. search needs)
-    (λ c. search needs)
+    same-length
     returns)
