@@ -82,7 +82,7 @@ pub fn read_header(bytes: &[u8]) -> HeaderAnswer
 fn judged_values(bytes: usize, values: [u64; FIELD_COUNT]) -> Judged
     ensures { λ r. ⌜ r ≡ judgedOf bytes (valueIn fields1985 values) (allFit decimalFits fields1985 values) ⌝ }
 {
-    let decimals = header_write::decimals_fit(values);
+    let decimals = header_fits::decimals_fit(values);
     Judged {
         bytes,
         length_words: values[header::AT_LENGTH_WORDS],
@@ -106,7 +106,7 @@ fn judge_writing(bytes: usize, values: [u64; FIELD_COUNT]) -> u8
     ensures { λ r. ⌜ r ≡ writeRefusal bytes values ⌝ }
 {
     let refusal = checks::first_check(judged_values(bytes, values));
-    let fit = header_write::binaries_fit(values);
+    let fit = header_fits::binaries_fit(values);
     answers::first_refusal(refusal, answers::check(22, !fit, 0))
 }
 

@@ -5,8 +5,8 @@ use Rattle.fields.specs.Table.{allFit}
 use Rattle.header_parts.specs.Parts.{fitRows}
 use Rattle.header_parts.proofs.Laws.{whole}
 use Rattle.header.specs.Format.{common1, common2, common3, common4, common5, fields1985}
-use Rattle.header_write.proofs.binaries_fit.Statement.{statement}
-use Rattle.header_write.proofs.binaries_fit.Tie as tie
+use Rattle.header_fits.proofs.binaries_fit.Statement.{statement}
+use Rattle.header_fits.proofs.binaries_fit.Tie as tie
 
 returns : tie.Need-returns
 returns c =

@@ -9,8 +9,8 @@ use Rattle.fields.specs.Field.{decimalFits}
 use Rattle.fields.specs.Table.{allFit}
 use Rattle.header_parts.proofs.Laws.{whole}
 use Rattle.header.specs.Format.{fields1985}
-use Rattle.header_write.proofs.decimals_fit.Statement.{statement}
-use Rattle.header_write.proofs.decimals_fit.Tie as tie
+use Rattle.header_fits.proofs.decimals_fit.Statement.{statement}
+use Rattle.header_fits.proofs.decimals_fit.Tie as tie
 
 returns : tie.Need-returns
 returns c =
