@@ -2,6 +2,8 @@ use mathlib.Core.Path.{_∙_}
 use mathlib.Core.Bool.{cond, not, _&&_, _||_}
 use lib.Dec.{eqb, ltb}
 use borrow.Author.Needs.{needs}
+use Rattle.header.specs.Format.{headerBytes}
+use Rattle.checks.specs.Checks.{lastMs}
 use Rattle.checks.proofs.first_check.Statement.{statement}
 use Rattle.checks.proofs.first_check.Tie as tie
 
@@ -23,7 +25,7 @@ returns c =
     let j = rate .before .args .j in
     let sync = c1 .check .ensures in
     let digits = c2 .check2 .ensures ∙ (λ i. cond (not (j .decimals)) 10 (sync i)) in
-    let times = c3 .check3 .ensures ∙ (λ i. cond (ltb 86399999 (j .«time_tag») || ltb 86399999 (j .«readback_tag»)) 9 (digits i)) in
+    let times = c3 .check3 .ensures ∙ (λ i. cond (ltb lastMs (j .«time_tag») || ltb lastMs (j .«readback_tag»)) 9 (digits i)) in
     let dates = c4 .check4 .ensures ∙ (λ i. cond (date .wrong-date .ensures i) 8 (times i)) in
     let numbers = c5 .check5 .ensures ∙ (λ i. cond (eqb (j .«tape_number») 0 || eqb (j .«record_number») 0) 7 (dates i)) in
     let line = rate .sample-rate-of .ensures in
@@ -34,7 +36,7 @@ returns c =
     let compression = c8 .check8 .ensures ∙ (λ i. cond (not (eqb (j .compression) 1)) 4 (rates i)) in
     let conversion = c9 .check9 .ensures ∙ (λ i. cond (eqb (j .conversion) 1) 3 (compression i)) in
     let lengths = c10 .check10 .ensures ∙ (λ i. cond (length .wrong-length .ensures i) 2 (conversion i)) in
-    c .check11 .ensures ∙ (λ i. cond (ltb (j .bytes) 80) 1 (lengths i))
+    c .check11 .ensures ∙ (λ i. cond (ltb (j .bytes) headerBytes) 1 (lengths i))
 
 pub first-check-spec : {M : Type 1} → statement M
 first-check-spec =

@@ -4,7 +4,7 @@ use Rattle.fields.specs.Field.{binaryFits}
 use Rattle.fields.specs.Table.{allFit}
 use Rattle.header_parts.specs.Parts.{fitRows}
 use Rattle.header_parts.proofs.Laws.{whole}
-use Rattle.header.specs.Format.{common1, common2, common3, common4, common5, fields1985}
+use Rattle.header.specs.Format.{common1, common2, common3, common4, common5, fieldCount, fields1985}
 use Rattle.header_fits.proofs.binaries_fit.Statement.{statement}
 use Rattle.header_fits.proofs.binaries_fit.Tie as tie
 
@@ -23,7 +23,7 @@ returns c =
     c4 .«fit-common-4» .ensures ∙ ap (fitRows common4 24 v) (
     c5 .«fit-common-5» .ensures ∙ ap (fitRows common5 32 v) (
     c6 .«fit-own-1985» .ensures)))))
-    ∙ ap (allFit binaryFits fields1985) (whole 46 v (search (needs, start .good)))
+    ∙ ap (allFit binaryFits fields1985) (whole fieldCount v (search (needs, start .good)))
 
 pub binaries-fit-spec : {M : Type 1} → statement M
 binaries-fit-spec =

@@ -6,7 +6,7 @@ use borrow.Author.Needs.{needs}
 use Rattle.fields.specs.Table.{writeAll}
 use Rattle.header_parts.specs.Parts.{cells}
 use Rattle.header_parts.proofs.Laws.{whole}
-use Rattle.header.specs.Format.{common2, common3, common4, common5, own1985, fields1985}
+use Rattle.header.specs.Format.{common2, common3, common4, common5, own1985, fieldCount, fields1985}
 use Rattle.header_write.proofs.write_values.Statement.{statement}
 use Rattle.header_write.proofs.write_values.Tie as tie
 
@@ -27,7 +27,7 @@ returns c =
     w3 .«write-common-3» .ensures ∙ ap (writeAll common3 (cells 16 8 v)) (
     w2 .«write-common-2» .ensures ∙ ap (writeAll common2 (cells 8 8 v)) (
     w1 .«write-common-1» .ensures)))))
-    ∙ ap (λ (l : List ℕ). writeAll fields1985 l (now (a .bytes))) (whole 46 v (search (needs, start .good)))
+    ∙ ap (λ (l : List ℕ). writeAll fields1985 l (now (a .bytes))) (whole fieldCount v (search (needs, start .good)))
 
 pub write-values-spec : {M : Type 1} → statement M
 write-values-spec =
