@@ -17,9 +17,9 @@ use Rattle.index_query.specs.Shown.{shownConsistency}
 use Rattle.listing.specs.declared.ListAnswer.{ListAnswer}
 use Rattle.listing.specs.declared.ListAnswer.the-variants as ListAnswer
 use Rattle.listing.specs.Shown.{shownList}
-use Rattle.record.specs.declared.FrequencyRateAnswer.{FrequencyRateAnswer}
-use Rattle.record.specs.declared.FrequencyRateAnswer.the-variants as FrequencyRateAnswer
-use Rattle.record.specs.FrequencyRate.{shownFrequencyRate}
+use Rattle.frequency_rate.specs.declared.FrequencyRateAnswer.{FrequencyRateAnswer}
+use Rattle.frequency_rate.specs.declared.FrequencyRateAnswer.the-variants as FrequencyRateAnswer
+use Rattle.frequency_rate.specs.FrequencyRate.{shownFrequencyRate}
 use Rattle.times.specs.declared.TimeAnswer.{TimeAnswer}
 use Rattle.times.specs.declared.TimeAnswer.the-variants as TimeAnswer
 use Rattle.times.specs.SampleTime.{shownTime}

@@ -11,8 +11,8 @@ use Rattle.index_query.specs.declared.ConsistencyAnswer.{ConsistencyAnswer}
 use Rattle.index_query.specs.declared.ConsistencyAnswer.the-variants as ConsistencyAnswer
 use Rattle.listing.specs.declared.ListAnswer.{ListAnswer}
 use Rattle.listing.specs.declared.ListAnswer.the-variants as ListAnswer
-use Rattle.record.specs.declared.FrequencyRateAnswer.{FrequencyRateAnswer}
-use Rattle.record.specs.declared.FrequencyRateAnswer.the-variants as FrequencyRateAnswer
+use Rattle.frequency_rate.specs.declared.FrequencyRateAnswer.{FrequencyRateAnswer}
+use Rattle.frequency_rate.specs.declared.FrequencyRateAnswer.the-variants as FrequencyRateAnswer
 use Rattle.reel.specs.declared.Step.{Step}
 use Rattle.reel.specs.declared.Step.the-variants as Step
 use Rattle.times.specs.declared.TimeAnswer.{TimeAnswer}

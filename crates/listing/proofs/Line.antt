@@ -14,10 +14,10 @@ use Rattle.fields.proofs.OneField.{value-lt}
 use Rattle.fields.proofs.Tables.{fit-at}
 use Rattle.header.specs.Format.{fields1985}
 use Rattle.header.specs.Rows.{clockOrigin, recordNumber, readback, frequencyRateDigits, frequencyRatePower, frequencyRateSign}
-use Rattle.record.specs.FrequencyRate.{frequencyRateUnits, frequencyRateOf}
+use Rattle.frequency_rate.specs.FrequencyRate.{frequencyRateUnits, frequencyRateOf}
 use Rattle.record.specs.Record.{recordRefusal}
 use Rattle.record.proofs.Accepted.{record-facts, values-small}
-use Rattle.record.proofs.Signs.{power-small}
+use Rattle.frequency_rate.proofs.Signs.{power-small}
 use Rattle.text.proofs.Line.{line-within}
 use Rattle.times.specs.SampleTime.{sampleTime}
 use Rattle.listing.specs.Listing.{columnsOf, recordText, longestLine}

@@ -10,7 +10,7 @@ use Rattle.answers.specs.Answer.{Answer, unless}
 use Rattle.answers.specs.Refusal.{_then_}
 use Rattle.fields.specs.Field.{valueOf}
 use Rattle.header.specs.Rows.{clockOrigin, recordNumber, readback}
-use Rattle.record.specs.FrequencyRate.{frequencyRateOf}
+use Rattle.frequency_rate.specs.FrequencyRate.{frequencyRateOf}
 use Rattle.record.specs.Record.{recordRefusal}
 use Rattle.times.specs.SampleTime.{sampleTime}
 use Rattle.reel.specs.Reel.{Found, accepted, finished, refused}

@@ -35,7 +35,7 @@ fn read_columns(bytes: &[u8]) -> Columns
         first_us: times::first_sample_time(bytes),
         origin: fields::read_field(bytes, header::CLOCK_ORIGIN),
         frequency_uhz: fields::read_field(bytes, header::READBACK),
-        frequency_rate_units: record::frequency_rate_of(bytes),
+        frequency_rate_units: frequency_rate::frequency_rate_of(bytes),
     }
 }
 

@@ -6,7 +6,7 @@ ghost use lib.ListN.{length};
 ghost use Rattle.answers.specs.Answer.{told};
 ghost use Rattle.sample_rates.specs.Answer.{rateLineOut};
 ghost use Rattle.record.specs.Record.{recordRefusal, headerAnswer, writeRefusal, afterWriting};
-ghost use Rattle.record.specs.FrequencyRate.{frequencyRateAnswer};
+ghost use Rattle.frequency_rate.specs.FrequencyRate.{frequencyRateAnswer};
 ghost use Rattle.samples.specs.InOut.{samplesRefusal, channelAfter, recordAfter};
 ghost use Rattle.samples.specs.Totals.{totalsAnswer, shownTotals};
 ghost use Rattle.times.specs.SampleTime.{timeAnswer};
@@ -91,7 +91,7 @@ pub extern "C" fn odr_write_header(bytes: &mut [u8], values: &[u64; FIELD_COUNT]
 pub extern "C" fn odr_frequency_rate(bytes: &[u8]) -> FrequencyRateOut
     ensures { λ r. ⌜ told (r .refusal) (r .units) ≡ frequencyRateAnswer (now (bytes .entry)) ⌝ }
 {
-    c_answers::frequency_rate_out(record::frequency_rate(bytes))
+    c_answers::frequency_rate_out(frequency_rate::frequency_rate(bytes))
 }
 
 // The time of sample k of a record, in microseconds of the day.

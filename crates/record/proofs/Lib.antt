@@ -1,4 +1,3 @@
 pub mod Accepted
 pub mod Count
-pub mod Signs
 pub mod RoundTrip

@@ -1,7 +1,7 @@
-// Records of 1985: which are accepted, their header read and written, their samples' stretch and the frequency rate. FORMAT, "The
-// record", "Refusal numbers", "Frequency rate". Every public function takes any bytes; a refusal is a number, and 0 is none.
+// Records of 1985: which are accepted, their header read and written, and their samples' stretch. FORMAT, "The record", "Refusal
+// numbers". Every public function takes any bytes; a refusal is a number, and 0 is none.
 ghost use mathlib.Core.Path.{_≡_};
-ghost use Prim.Native.Nat.{_^_, _≤_, _<_};
+ghost use Prim.Native.Nat.{_≤_};
 ghost use lib.ListN.{length};
 ghost use Rattle.fields.specs.Field.{valueOf, decimalFits};
 ghost use Rattle.fields.specs.Table.{allDigitsGood, allFit, valueIn};
@@ -10,7 +10,6 @@ ghost use Rattle.sample_rates.specs.Rates.{mostSamples};
 ghost use Rattle.checks.specs.Checks.{judgedOf};
 ghost use Rattle.record.specs.Record.{recordRefusal, headerAnswer, shownHeader, writeRefusal, afterWriting};
 ghost use Rattle.record.specs.Stretch.{recordRate, sampleCount, stretchOf};
-ghost use Rattle.record.specs.FrequencyRate.{mostDigits, frequencyRateUnits, frequencyRateOf, frequencyRateAnswer, shownFrequencyRate};
 use checks::Judged;
 use header::FIELD_COUNT;
 use header::HEADER_BYTES;
@@ -20,12 +19,6 @@ use sample_rates::SampleRate;
 pub struct HeaderAnswer {
     pub refusal: u8,
     pub values: [u64; FIELD_COUNT],
-}
-
-// The frequency rate in units of 0.00001 Hz/s, or the refusal.
-pub enum FrequencyRateAnswer {
-    Units(i64),
-    Refused(u8),
 }
 
 // What 1 to 11 judge of the bytes. Only those fields are read.
@@ -146,51 +139,4 @@ pub fn sample_stretch<'a>(bytes: &'a [u8]) -> &'a [u8]
     let start = lists::lesser(HEADER_BYTES, bytes.len());
     let end = lists::lesser(HEADER_BYTES + 4 * count, bytes.len());
     &bytes[start..end]
-}
-
-// 10 to a power below 8.
-fn ten_to(power: u64) -> u64
-    requires { ⌜ power < 8 ⌝ }
-    ensures { λ r. ⌜ (r ≡ 10 ^ power) × (r ≤ 10000000) ⌝ }
-{
-    let mut x: u64 = 1;
-    let mut k: u64 = 0;
-    while k < power {
-        x = x * 10;
-        k += 1;
-    }
-    x
-}
-
-// The rate by its digits, power and sign bit.
-fn frequency_rate_units(digits: u64, power: u64, sign: u64) -> i64
-    requires { ⌜ (digits < mostDigits) × (power < 8) ⌝ }
-    ensures { λ r. ⌜ r ≡ frequencyRateUnits digits power sign ⌝ }
-{
-    let size = (digits * ten_to(power)) as i64;
-    if sign == 1 {
-        return size;
-    }
-    0 - size
-}
-
-// The frequency rate that any bytes hold: digits that are not decimal count as they stand.
-pub fn frequency_rate_of(bytes: &[u8]) -> i64
-    ensures { λ r. ⌜ r ≡ frequencyRateOf (now (bytes .entry)) ⌝ }
-{
-    let digits = fields::read_field(bytes, header::FREQUENCY_RATE_DIGITS);
-    let power = fields::read_field(bytes, header::FREQUENCY_RATE_POWER);
-    let sign = fields::read_field(bytes, header::FREQUENCY_RATE_SIGN);
-    frequency_rate_units(digits, power, sign)
-}
-
-// The frequency rate of a record.
-pub fn frequency_rate(bytes: &[u8]) -> FrequencyRateAnswer
-    ensures { λ r. ⌜ shownFrequencyRate r ≡ frequencyRateAnswer (now (bytes .entry)) ⌝ }
-{
-    let refusal = refusal_of(bytes);
-    if refusal != 0 {
-        return FrequencyRateAnswer::Refused(refusal);
-    }
-    FrequencyRateAnswer::Units(frequency_rate_of(bytes))
 }

@@ -6,7 +6,7 @@ use Rattle.bits.specs.Decimal.{decimalValue, digits}
 use Rattle.fields.specs.Field.{valueOf, digitsGood}
 use Rattle.sample_rates.specs.Rates.{sampleRateOf, lineIn}
 use Rattle.record.specs.Record.{recordRefusal, headerAnswer}
-use Rattle.record.specs.FrequencyRate.{frequencyRateUnits, frequencyRateOf, frequencyRateAnswer}
+use Rattle.frequency_rate.specs.FrequencyRate.{frequencyRateUnits, frequencyRateOf, frequencyRateAnswer}
 use Rattle.channels.specs.Sample.{signedOf}
 use Rattle.totals.specs.Total.{sumOf, squaresOf, lesser, greater, keptOf, totalOf}
 use Rattle.record.specs.Stretch.{recordRate}

@@ -9,7 +9,7 @@ use Rattle.header.specs.Format.{fields1985}
 use Rattle.header.specs.Rows.{readback}
 use Rattle.answers.specs.Answer.{Answer}
 use Rattle.record.specs.Record.{recordRefusal, headerAnswer}
-use Rattle.record.specs.FrequencyRate.{frequencyRateAnswer}
+use Rattle.frequency_rate.specs.FrequencyRate.{frequencyRateAnswer}
 use Rattle.channels.specs.Sample.{signedOf}
 use Rattle.totals.specs.declared.Total.{Total}
 use Rattle.totals.specs.Total.{totalOf}

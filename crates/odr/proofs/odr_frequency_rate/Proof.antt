@@ -1,6 +1,6 @@
 use denote.Ref.{now}
 use Rattle.record.specs.Record.{recordRefusal}
-use Rattle.record.specs.FrequencyRate.{frequencyRateOf, frequencyRateAnswer}
+use Rattle.frequency_rate.specs.FrequencyRate.{frequencyRateOf, frequencyRateAnswer}
 use Rattle.c_answers.proofs.Told.{frequency-rate-told}
 use borrow.Author.Needs.{needs}
 use Rattle.odr.proofs.odr_frequency_rate.Statement.{statement}

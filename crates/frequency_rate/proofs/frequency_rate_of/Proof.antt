@@ -3,11 +3,11 @@ use mathlib.Core.Path.{sym, subst, _∙_}
 use denote.Ref.{now}
 use mir.Syntax.{w64}
 use mir.ValLaws.{toZ-ofZ}
-use Rattle.record.specs.FrequencyRate.{mostDigits, frequencyRateUnits, frequencyRateOf}
-use Rattle.record.proofs.Signs.{digits-small, power-small}
+use Rattle.frequency_rate.specs.FrequencyRate.{mostDigits, frequencyRateUnits, frequencyRateOf}
+use Rattle.frequency_rate.proofs.Signs.{digits-small, power-small}
 use borrow.Author.Needs.{needs}
-use Rattle.record.proofs.frequency_rate_of.Statement.{statement}
-use Rattle.record.proofs.frequency_rate_of.Tie as tie
+use Rattle.frequency_rate.proofs.frequency_rate_of.Statement.{statement}
+use Rattle.frequency_rate.proofs.frequency_rate_of.Tie as tie
 
 frequency-rate-units-requires : tie.Need-frequency-rate-units-requires
 frequency-rate-units-requires c κs =

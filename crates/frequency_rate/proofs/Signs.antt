@@ -16,7 +16,7 @@ use Rattle.bits.proofs.Decimal.{decimal-room}
 use Rattle.fields.specs.Field.{start, width, digitCount, valueOf}
 use Rattle.fields.proofs.OneField.{value-lt}
 use Rattle.header.specs.Rows.{frequencyRateDigits, frequencyRatePower}
-use Rattle.record.specs.FrequencyRate.{mostDigits, frequencyRateUnits}
+use Rattle.frequency_rate.specs.FrequencyRate.{mostDigits, frequencyRateUnits}
 
 -- digits and power of any bytes
 pub digits-small : (b : List ℕ) → valueOf frequencyRateDigits b < mostDigits

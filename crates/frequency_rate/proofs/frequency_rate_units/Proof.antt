@@ -1,10 +1,10 @@
 use mathlib.Core.Path.{_∙_}
 use native.Mathlib.Omega.{arith}
 use Prim.Native.Nat.{_*_}
-use Rattle.record.proofs.Signs.{size-bound, positive, minus-fits, negative, units-positive, units-negative}
+use Rattle.frequency_rate.proofs.Signs.{size-bound, positive, minus-fits, negative, units-positive, units-negative}
 use borrow.Author.Needs.{needs}
-use Rattle.record.proofs.frequency_rate_units.Statement.{statement}
-use Rattle.record.proofs.frequency_rate_units.Tie as tie
+use Rattle.frequency_rate.proofs.frequency_rate_units.Statement.{statement}
+use Rattle.frequency_rate.proofs.frequency_rate_units.Tie as tie
 
 ten-to-requires : tie.Need-ten-to-requires
 ten-to-requires c κs = search needs

@@ -6,8 +6,8 @@ use native.Mathlib.Numerals.{add-one}
 use native.Mathlib.Omega.{arith}
 use lib.Dec.{lit<}
 use borrow.Author.Needs.{needs}
-use Rattle.record.proofs.ten_to.Statement.{statement}
-use Rattle.record.proofs.ten_to.Tie as tie
+use Rattle.frequency_rate.proofs.ten_to.Statement.{statement}
+use Rattle.frequency_rate.proofs.ten_to.Tie as tie
 
 power-more : (k : ℕ) → 10 ^ (k + 1) ≡ 10 ^ k * 10
 power-more k = ap (λ (n : ℕ). 10 ^ n) (add-one k) ∙ pow-suc 10 k

@@ -6,11 +6,11 @@ use mir.Syntax.{w64}
 use mir.ValLaws.{toZ-ofZ}
 use Rattle.answers.specs.Answer.{accepted, refused}
 use Rattle.answers.proofs.Refusals.{unless-none, unless-some}
 use Rattle.record.specs.Record.{recordRefusal}
-use Rattle.record.specs.FrequencyRate.{frequencyRateOf, frequencyRateAnswer}
+use Rattle.frequency_rate.specs.FrequencyRate.{frequencyRateOf, frequencyRateAnswer}
 use borrow.Author.Needs.{needs}
-use Rattle.record.proofs.frequency_rate.Statement.{statement}
-use Rattle.record.proofs.frequency_rate.Tie as tie
+use Rattle.frequency_rate.proofs.frequency_rate.Statement.{statement}
+use Rattle.frequency_rate.proofs.frequency_rate.Tie as tie
 
 returns : tie.Need-returns
 unfolding frequencyRateAnswer

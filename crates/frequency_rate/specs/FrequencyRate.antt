@@ -8,9 +8,9 @@ use lib.IntN.{ℤ, pos, negℤ}
 use Rattle.answers.specs.Answer.{Answer, accepted, refused, unless}
 use Rattle.fields.specs.Field.{valueOf}
 use Rattle.header.specs.Rows.{frequencyRateDigits, frequencyRatePower, frequencyRateSign}
-use Rattle.record.specs.declared.FrequencyRateAnswer.{FrequencyRateAnswer}
-use Rattle.record.specs.declared.FrequencyRateAnswer.the-variants as FrequencyRateAnswer
+use Rattle.frequency_rate.specs.declared.FrequencyRateAnswer.{FrequencyRateAnswer}
+use Rattle.frequency_rate.specs.declared.FrequencyRateAnswer.the-variants as FrequencyRateAnswer
 use Rattle.record.specs.Record.{recordRefusal}
 
 -- five digits of four bits, decimal or not, are less than this
 abbrev pub mostDigits : ℕ
