@@ -35,8 +35,8 @@ completes-turn {l = l} {m = m} {a = a} {b = b} {s = s} {t = t} r e c w =
     record { place = omega (arith, next, ap length e, length-append s t, c .place); buffer = both .buffer ∙ c .buffer }
 
 -- all that was left is written; or nothing was
-pub completes-last : {before whole l m : List ℕ} {at a b : ℕ} {x : List ℕ} → Room before at whole → Completes before at whole l a x
-    → Written l a x b m → Written before at whole b m
+pub completes-last : {before whole l m : List ℕ} {at a b : ℕ} {x : List ℕ} → Room before at whole
+    → Completes before at whole l a x → Written l a x b m → Written before at whole b m
 completes-last r c w =
     record { place = omega (arith, r .enough, next-place (completes-room r c) w, c .place); buffer = w .buffer ∙ c .buffer }
 

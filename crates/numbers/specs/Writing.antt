@@ -13,9 +13,9 @@ pub record Room (out : List ℕ) (at : ℕ) (text : List ℕ) : Type 0 where
 abbrev pub placeBehind : ℕ → ℕ → ℕ → ℕ
 placeBehind size at n = at + min n (size - at)
 
--- The text stands in the buffer from a place on, nothing else has changed, and the next place is the one after the text. Of a text
--- that goes past the end, only what lies before the end is written (`sets` stores nothing past it), and the next place is behind
--- that.
+-- The text stands in the buffer from a place on, nothing else has changed, and the next place is the one after the text. Of a
+-- text that goes past the end, only what lies before the end is written (`sets` stores nothing past it), and the next place is
+-- behind that.
 pub record Written (before : List ℕ) (at : ℕ) (text : List ℕ) (next : ℕ) (after : List ℕ) : Type 0 where
   pub place : next ≡ placeBehind (length before) at (length text)
   pub buffer : after ≡ sets before at text

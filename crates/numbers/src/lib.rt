@@ -1,5 +1,5 @@
-// Numbers as text (FORMAT, "The listing"), each written at a place of a lent buffer as far as the buffer goes; a writer returns the
-// place behind what it wrote.
+// Numbers as text (FORMAT, "The listing"), each written at a place of a lent buffer as far as the buffer goes; a writer returns
+// the place behind what it wrote.
 ghost use mathlib.Core.Path.{_≡_};
 ghost use mathlib.Core.List.{[], _∷_};
 ghost use lib.IntN.{pos, natAbs};

@@ -93,7 +93,8 @@ returns : tie.Need-returns Inv-loop μ-loop
 returns c =
     let k = c .before .before in
     let t = turn k .loop in
-    completes-end (entry k .pre) (left-finished (reel k) (t .place) (found k Step.Finished (c .enum-told .given .1)) (t .inv .left))
+    completes-end (entry k .pre)
+    (left-finished (reel k) (t .place) (found k Step.Finished (c .enum-told .given .1)) (t .inv .left))
     (t .inv .completes)
 
 write-refusal-requires : tie.Need-write-refusal-requires Inv-loop μ-loop
