@@ -12,7 +12,8 @@ use Rattle.answers.specs.Answer.{Answer, refused, unless}
 use Rattle.answers.proofs.Refusals.{then-none, then-some, unless-some, cond-some}
 use Rattle.record.specs.Record.{recordRefusal}
 use Rattle.text.specs.Placed.{answerAt, bufferAt}
-use Rattle.text.specs.Writing.{Written}
+use Rattle.numbers.specs.Writing.{Written}
+use Rattle.numbers.proofs.Writing.{next-place}
 use Rattle.listing.specs.Listing.{recordText, textRefusal, lineRefusal, textAnswer, textOver, bufferAfter}
 
 module _ (out text : List ℕ) where
@@ -29,7 +30,7 @@ module _ (out text : List ℕ) where
   pub whole-text : {next : ℕ} {after : List ℕ} → length text ≤ length out → Written out 0 text next after
       → (next ≡ length text) × (after ≡ textOver text out)
   whole-text h w = (
-    w .place ∙ zero-add (length text),
+    next-place (record { enough = omega arith }) w ∙ zero-add (length text),
     w .buffer ∙ sets-eq text out 0 (omega arith) ∙ ap (λ (k : ℕ). text ++ drop k out) (zero-add (length text)),
   )
 

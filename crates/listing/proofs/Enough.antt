@@ -13,7 +13,7 @@ use Rattle.reel.specs.Reel.{Found, stepAt}
 use Rattle.reel.specs.Walk.{walk}
 use Rattle.reel.proofs.Onward.{along}
 use Rattle.reel.proofs.Walk.{all-accepted, ends-there}
-use Rattle.text.specs.Number.{decimalText, digitsIn}
+use Rattle.numbers.specs.Number.{decimalText, digitsIn}
 use Rattle.text.specs.Text.{headerLine, refusedLine}
 use Rattle.text.proofs.Judging.{not-refused}
 use Rattle.text.proofs.Line.{refusedLine-length}

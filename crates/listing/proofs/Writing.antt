@@ -5,8 +5,8 @@ use mathlib.Core.List.{List, [], _++_}
 use native.Mathlib.Omega.{arith}
 use lib.ListN.{length, length-append}
 use lib.Seq.{sets, length-sets}
-use Rattle.text.specs.Writing.{Room, Written}
-use Rattle.text.proofs.Writing.{written-both, written-as}
+use Rattle.numbers.specs.Writing.{Room, Written}
+use Rattle.numbers.proofs.Writing.{next-place, room-first, written-both, written-as}
 
 -- were the rest written to l at the place a, the whole would be written
 pub record Completes (before : List ℕ) (at : ℕ) (whole l : List ℕ) (a : ℕ) (rest : List ℕ) : Type 0 where
@@ -27,17 +27,19 @@ pub completes-room : {before whole l : List ℕ} {at a : ℕ} {rest : List ℕ} 
 completes-room r c = record { enough = omega (arith, r .enough, c .place, completes-length c) }
 
 -- of the text left, s is written and t is left
-pub completes-turn : {before whole l m : List ℕ} {at a b : ℕ} {s t x : List ℕ} → s ++ t ≡ x → Completes before at whole l a x
-    → Written l a s b m → Completes before at whole m b t
-completes-turn e c w =
+pub completes-turn : {before whole l m : List ℕ} {at a b : ℕ} {s t x : List ℕ} → Room before at whole → s ++ t ≡ x
+    → Completes before at whole l a x → Written l a s b m → Completes before at whole m b t
+completes-turn {l = l} {m = m} {a = a} {b = b} {s = s} {t = t} r e c w =
+    let next = next-place (room-first t e (completes-room r c)) w in
     let both = written-both e w (record { place = refl; buffer = refl }) in
-    record { place = both .place ∙ c .place; buffer = both .buffer ∙ c .buffer }
+    record { place = omega (arith, next, ap length e, length-append s t, c .place); buffer = both .buffer ∙ c .buffer }
 
 -- all that was left is written; or nothing was
-pub completes-last : {before whole l m : List ℕ} {at a b : ℕ} {x : List ℕ} → Completes before at whole l a x → Written l a x b m
-    → Written before at whole b m
-completes-last c w = record { place = w .place ∙ c .place; buffer = w .buffer ∙ c .buffer }
+pub completes-last : {before whole l m : List ℕ} {at a b : ℕ} {x : List ℕ} → Room before at whole
+    → Completes before at whole l a x → Written l a x b m → Written before at whole b m
+completes-last r c w =
+    record { place = omega (arith, r .enough, next-place (completes-room r c) w, c .place); buffer = w .buffer ∙ c .buffer }
 
-pub completes-end : {before whole l : List ℕ} {at a : ℕ} {x : List ℕ} → x ≡ [] → Completes before at whole l a x
-    → Written before at whole a l
-completes-end e c = completes-last c (written-as (sym e) (record { place = omega arith; buffer = refl }))
+pub completes-end : {before whole l : List ℕ} {at a : ℕ} {x : List ℕ} → Room before at whole → x ≡ []
+    → Completes before at whole l a x → Written before at whole a l
+completes-end r e c = completes-last r c (written-as (sym e) (record { place = omega arith; buffer = refl }))

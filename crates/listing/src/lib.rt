@@ -5,7 +5,7 @@ ghost use mathlib.Core.Path.{_≡_};
 ghost use lib.ListN.{length};
 ghost use Rattle.text.specs.Placed.{shownText};
 ghost use Rattle.text.specs.Text.{refusedLine};
-ghost use Rattle.text.specs.Writing.{Room, Written};
+ghost use Rattle.numbers.specs.Writing.{Room, Written};
 ghost use Rattle.reel.specs.Walk.{walk};
 ghost use Rattle.listing.specs.Listing.{columnsOf, recordText, walkText, listing, longestListing, textOver};
 ghost use Rattle.listing.specs.Listing.{lineAnswer, lineAfter, listAnswer, listAfter};

@@ -13,7 +13,8 @@ use borrow.Author.Tests.{leb-true, leb-false, lt-ltb, le-ltb}
 use Rattle.answers.specs.Answer.{Answer, accepted, refused, unless}
 use Rattle.answers.specs.Refusal.{_when_, first}
 use Rattle.answers.proofs.Refusals.{unless-none, unless-some, cond-none, cond-some}
-use Rattle.text.specs.Writing.{Room, Written}
+use Rattle.numbers.specs.Writing.{Room, Written}
+use Rattle.numbers.proofs.Writing.{next-place}
 use Rattle.text.specs.Placed.{refusalAt, answerAt, bufferAt}
 
 module _ (out : List ℕ) (at : ℕ) (text : List ℕ) where
@@ -33,7 +34,7 @@ module _ (out : List ℕ) (at : ℕ) (text : List ℕ) where
       → (accepted next ≡ answerAt out at text) × (after ≡ bufferAt out at text)
   placed h w =
       let none = not-refused h in (
-        ap accepted (w .place) ∙ unless-none (refusalAt out at text) 0 (at + length text) none,
+        ap accepted (next-place (record { enough = h }) w) ∙ unless-none (refusalAt out at text) 0 (at + length text) none,
         w .buffer ∙ sets-eq text out at h ∙ sym (cond-none (refusalAt out at text) out put none),
       )
 
@@ -42,7 +43,9 @@ module _ (out : List ℕ) (at : ℕ) (text : List ℕ) where
   put-written r e a b =
       let none = not-refused (r .enough) in
       record {
-        place = e ∙ ap (λ (x : Answer ℕ). x .value) (a ∙ sym (unless-none (refusalAt out at text) 0 (at + length text) none));
+        place =
+            e ∙ ap (λ (x : Answer ℕ). x .value) (a ∙ sym (unless-none (refusalAt out at text) 0 (at + length text) none))
+            ∙ omega (arith, r .enough);
         buffer = b ∙ cond-none (refusalAt out at text) out put none ∙ sym (sets-eq text out at (r .enough));
       }
 
@@ -64,8 +67,9 @@ module _ (out : List ℕ) (at : ℕ) (text : List ℕ) where
 -- a text written from the start of a buffer that has room for it is the buffer's front
 pub front : {line text after : List ℕ} {n : ℕ} → length text ≤ length line → Written line 0 text n after
     → (n ≤ length after) × (take n after ≡ text)
-front {line} {text} h w = (
-  omega (arith, w .place, ap length (w .buffer), length-sets line 0 text),
-  (λ i. take ((w .place ∙ zero-add (length text)) i) ((w .buffer ∙ sets-eq text line 0 (omega arith)) i))
-      ∙ take-append-seam text (drop (0 + length text) line),
-)
+front {line} {text} h w =
+    let next = next-place (record { enough = omega arith }) w in (
+      omega (arith, next, ap length (w .buffer), length-sets line 0 text),
+      (λ i. take ((next ∙ zero-add (length text)) i) ((w .buffer ∙ sets-eq text line 0 (omega arith)) i))
+          ∙ take-append-seam text (drop (0 + length text) line),
+    )

@@ -8,12 +8,12 @@ use lib.Dec.{lit<, lit≤}
 use lib.IntN.{ℤ, pos, negsuc, natAbs}
 use lib.Signed.{mag}
 use lib.ListN.{length, length-append}
-use Rattle.text.specs.Number.{ascii, digitsIn, decimalText, places, fixed, signedFixed}
+use Rattle.numbers.specs.Number.{ascii, digitsIn, decimalText, places, fixed, signedFixed}
 use Rattle.text.specs.declared.Columns.{Columns}
 use Rattle.text.specs.Text.{headerLine, recordLine, refusedLine, lineOf}
-use Rattle.text.proofs.Decimal.{decimal-length}
-use Rattle.text.proofs.Places.{fixed-parts}
-use Rattle.text.proofs.Signs.{natAbs-mag}
+use Rattle.numbers.proofs.Decimal.{decimal-length}
+use Rattle.numbers.proofs.Places.{fixed-parts}
+use Rattle.numbers.proofs.Signs.{natAbs-mag}
 
 -- a number below 10 ^ (d + k) with k places has at most d digits before the point
 fixed-length : (d k n : ℕ) → 0 < d → n < 10 ^ d * 10 ^ k → length (fixed k n) ≤ d + 1 + k

@@ -1,4 +1,2 @@
-pub mod Number
-pub mod Writing
 pub mod Text
 pub mod Placed

@@ -2,7 +2,7 @@
 use mathlib.Core.List.{List, _++_}
 use Prim.Native.Nat.{ℕ, _+_}
 use lib.IntN.{ℤ}
-use Rattle.text.specs.Number.{ascii, decimalText, fixed, signedFixed}
+use Rattle.numbers.specs.Number.{ascii, decimalText, fixed, signedFixed}
 use Rattle.text.specs.declared.Columns.{Columns}
 
 unfoldable pub headerLine : List ℕ

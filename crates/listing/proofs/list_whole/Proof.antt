@@ -6,11 +6,11 @@ use native.Mathlib.Omega.{arith}
 use lib.ListN.{length}
 use denote.Ref.{now}
 use borrow.Author.Needs.{needs}
-use Rattle.text.specs.Number.{decimalText, digitsIn}
+use Rattle.numbers.specs.Number.{decimalText, digitsIn}
 use Rattle.text.specs.Text.{headerLine, refusedLine}
-use Rattle.text.specs.Writing.{Room, Written}
+use Rattle.numbers.specs.Writing.{Room, Written}
 use Rattle.text.proofs.Judging.{put-written}
-use Rattle.text.proofs.Writing.{room-rest, written-both}
+use Rattle.numbers.proofs.Writing.{room-rest, written-both}
 use Rattle.listing.specs.Listing.{listing, longestListing, textOver}
 use Rattle.listing.proofs.Answers.{whole-text}
 use Rattle.listing.proofs.Cases.{too-long, not-too-long}

@@ -12,8 +12,8 @@ use Rattle.reel.specs.declared.Step.the-variants as Step
 use Rattle.reel.specs.Reel.{Found, accepted, finished, refused, stepAt}
 use Rattle.reel.specs.Shown.{shownStep}
 use Rattle.reel.proofs.Place.{Stands, stands-at}
-use Rattle.text.specs.Writing.{Room}
-use Rattle.text.proofs.Writing.{room-first, room-as, written-as}
+use Rattle.numbers.specs.Writing.{Room}
+use Rattle.numbers.proofs.Writing.{room-first, room-as, written-as}
 use Rattle.listing.specs.Listing.{recordText}
 use Rattle.listing.proofs.Left.{Line, Walking, left-start, left-record, left-finished, left-refused}
 use Rattle.listing.proofs.Writing.{completes-start, completes-length, completes-room, completes-turn, completes-last}
@@ -82,7 +82,7 @@ loop-again c =
     record {
       rest = l .rest;
       left = l .left;
-      completes = completes-turn (l .joined) (turn k .loop .inv .completes)
+      completes = completes-turn (entry k .pre) (l .joined) (turn k .loop .inv .completes)
           (c .before .before .write-record .ensures);
     }
 
@@ -93,7 +93,8 @@ returns : tie.Need-returns Inv-loop μ-loop
 returns c =
     let k = c .before .before in
     let t = turn k .loop in
-    completes-end (left-finished (reel k) (t .place) (found k Step.Finished (c .enum-told .given .1)) (t .inv .left))
+    completes-end (entry k .pre)
+    (left-finished (reel k) (t .place) (found k Step.Finished (c .enum-told .given .1)) (t .inv .left))
     (t .inv .completes)
 
 write-refusal-requires : tie.Need-write-refusal-requires Inv-loop μ-loop
@@ -114,7 +115,7 @@ returns-2 c =
     let m = w .before .before .before in
     let k = m .before .before in
     let t = turn k .loop in
-    completes-last (t .inv .completes)
+    completes-last (entry k .pre) (t .inv .completes)
     (written-as (sym (left-refused (reel k) (t .place) _ (found k _ (m .n .given .1)) (t .inv .left)))
     (w .write-refusal .ensures))
 

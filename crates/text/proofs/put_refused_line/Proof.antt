@@ -40,7 +40,7 @@ put-refused-line-spec =
     tie.close
     (tie.spec
     (λ c. search needs)
-    (λ c κs. record { enough = omega (arith, small (c .before .before)) })
+    (λ c κs. search needs)
     (λ c. written (c .before .before) .0)
     (λ c. sym (length-take-le _ _ (written (c .before .before .before) .0)))
     (λ c κs. search needs)

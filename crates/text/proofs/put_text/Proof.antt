@@ -3,12 +3,6 @@ use Rattle.text.proofs.Judging.{judged-room, judged-full, placed, too-l
 use Rattle.text.proofs.put_text.Statement.{statement}
 use Rattle.text.proofs.put_text.Tie as tie
 
-write-text-requires : tie.Need-write-text-requires
-write-text-requires c κs =
-    let r = c .before .before in
-    let a = r .before .before .before .args in
-    record { enough = judged-room (a .out .now) (a .at) (a .text .now) (r .room .ensures) (c .before .if1 .taken) }
-
 returns : tie.Need-returns
 returns c =
     let t = c .before .before .before .before in
@@ -25,4 +19,4 @@ returns-2 c =
     (c .if1 .left))
 
 pub put-text-spec : {M : Type 1} → statement M
-put-text-spec = tie.close (tie.spec (λ c κs. search needs) write-text-requires (λ c. search needs) returns returns-2)
+put-text-spec = tie.close (tie.spec (λ c κs. search needs) (λ c κs. search needs) (λ c. search needs) returns returns-2)

@@ -11,7 +11,7 @@ use mir.Facts.{toZ-ofZ}
 use mir.Syntax.{w64}
 use mir.Val.{SFits, toZ, ofZ}
 use borrow.Author.Tests.{ltb-true, le-ltb}
-use Rattle.text.specs.Number.{ascii, fixed, signedFixed}
+use Rattle.numbers.specs.Number.{ascii, fixed, signedFixed}
 
 -- a signed number comes to a callee, and to a test, as it is read of its bits
 abbrev readOf : ℤ → ℤ

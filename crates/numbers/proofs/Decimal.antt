@@ -12,7 +12,7 @@ use lib.Dec.{ltb, lit<, lit≤}
 use lib.ListN.{length, getD, length-append, List·getD-append}
 use borrow.Author.Tests.{lt-ltb, le-ltb}
 use Rattle.lists.proofs.Order.{le-or-lt}
-use Rattle.text.specs.Number.{digit, decimalText, digitsIn, valueAfter, numeralValue}
+use Rattle.numbers.specs.Number.{digit, decimalText, digitsIn, valueAfter, numeralValue}
 
 small : (f n : ℕ) → n < 10 → digitsIn f (ltb n 10) n ≡ digit n ∷ []
 unfolding digitsIn

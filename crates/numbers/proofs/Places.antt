@@ -7,8 +7,8 @@ use native.Mathlib.Nat.{div-one, div-div-eq-div-mul, pow-succ'}
 use native.Mathlib.Numerals.{add-one}
 use native.Mathlib.Omega.{arith}
 use lib.ListN.{length, length-append}
-use Rattle.text.specs.Number.{ascii, digit, decimalText, places, fixed, numeralValue}
-use Rattle.text.proofs.Decimal.{value-last, value-decimal}
+use Rattle.numbers.specs.Number.{ascii, digit, decimalText, places, fixed, numeralValue}
+use Rattle.numbers.proofs.Decimal.{value-last, value-decimal}
 
 pub places-length : (k n : ℕ) → length (places k n) ≡ k
 unfolding places

@@ -1,0 +1,4 @@
+pub mod Decimal
+pub mod Places
+pub mod Signs
+pub mod Writing
