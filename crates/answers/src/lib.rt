@@ -1,5 +1,5 @@
-// What a call answers: a value, or the number of the first refusal that applies. FORMAT, "Refusal numbers". Every crate above uses
-// this.
+// What a call answers: a value, or the number of the first refusal that applies. FORMAT, "Refusal numbers". Every crate above
+// uses this.
 ghost use mathlib.Core.Path.{_≡_};
 ghost use mathlib.Core.Bool.{cond};
 ghost use Rattle.answers.specs.Refusal.{_then_};

@@ -2,12 +2,16 @@
 use Prim.Native.Nat.{ℕ, zero, suc, _+_, _-_, _*_, _/_, _%_, _^_, _≤_, _<_}
 use mathlib.Core.Path.{_≡_, refl, ap, sym, _∙_, subst}
 use mathlib.Core.Bool.{_&&_}
-use native.Mathlib.Nat.{pow-suc, pow-le-pow-right, div-one}
+use mathlib.Core.Logic.{⊎-elim}
+use native.Mathlib.Nat.{one-mul, pow-suc, pow-le-pow-right, div-one, div-eq-of-lt, div-lt-iff-lt-mul}
+use native.Mathlib.Numerals.{add-one}
 use native.Mathlib.Omega.{arith}
 use lib.Pow.{shr-shr}
-use lib.Dec.{T, leb, leb→le, le→leb, lit<, lit≤}
+use lib.Dec.{T, eqb, leb, ltb, leb→le, le→leb, lit<, lit≤}
+use borrow.Author.Tests.{eq-eqb, ne-eqb, lt-ltb, le-ltb}
 use Rattle.bits.specs.Decimal.{decimalValue, digits, coded}
 use Rattle.lists.proofs.Truth.{left, right, both}
+use Rattle.lists.proofs.Order.{le-or-lt}
 
 -- any digits: room for the sums
 pub decimal-room : (n v : ℕ) → decimalValue n v + 2 ≤ 2 * 10 ^ n
@@ -63,6 +67,21 @@ coded-decimal (suc n) v h t =
     let e : coded n (decimalValue n (v / 16)) ≡ v / 16 = coded-decimal n (v / 16) (omega (arith, p)) (left (digits n (v / 16)) (leb (v % 16) 9) t) in
     let f : coded n ((decimalValue n (v / 16) * 10 + v % 16) / 10) ≡ coded n (decimalValue n (v / 16)) = ap (coded n) q in
     omega (arith, e, f, r)
+
+-- ## whether a number has no more than n decimal digits
+
+pub ten-more : (k : ℕ) → 10 ^ (k + 1) ≡ 10 ^ k * 10
+ten-more k = ap (λ (n : ℕ). 10 ^ n) (add-one k) ∙ pow-suc 10 k
+
+-- then nothing is left of it after n divisions by ten
+pub none-left : (x n : ℕ) → eqb (x / 10 ^ n) 0 ≡ ltb x (10 ^ n)
+none-left x n =
+    let some : 0 < 10 ^ n = pow-le-pow-right {n = 10} (lit< tt) {i = 0} {j = n} (omega arith) in
+    let below = div-lt-iff-lt-mul {k = 10 ^ n} {x = x} {y = 1} some in
+    ⊎-elim
+    (λ p. ne-eqb (x / 10 ^ n) 0 (λ z. let q : x < 1 * 10 ^ n = below .0 (omega (arith, z)) in omega (arith, one-mul (10 ^ n))) ∙ sym (le-ltb x (10 ^ n) p))
+    (λ p. eq-eqb _ _ (div-eq-of-lt p) ∙ sym (lt-ltb x (10 ^ n) p))
+    (le-or-lt (10 ^ n) x)
 
 -- ## a loop over the digits of a code, from the most significant on
 

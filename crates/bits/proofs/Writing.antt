@@ -9,7 +9,7 @@ use lib.ListN.{length, getD, set, length-set}
 use lib.Seq.{ext-getD, getD-set-same, getD-set-other}
 use lib.Arith.{digits-lt}
 use lib.Pow.{pow-pos, pow-add, shr-lt, shr-shr}
-use Rattle.bits.specs.Bits.{bitAt, num, put, getBits, setBits}
+use Rattle.bits.specs.Bits.{bitAt, num, put, getBits, setBits, widest}
 use Rattle.bits.proofs.Bits.{num-add, num-mid, num-high, num-low, byte-num, bitAt-lt, put-lt, num-put, num-put-left, num-put-right, length-setBits, getD-bytesOf}
 use Rattle.bits.specs.Steps.{Stored, mix}
 use Rattle.lists.proofs.Order.{le-or-lt}
@@ -147,7 +147,7 @@ all-stored s w v n b c h p p' o =
     ∙ sym (getD-bytesOf g (length b) i q'))
 
 -- what the code computes
-pub done : (s w v m x : ℕ) (b c : List ℕ) → ((k : ℕ) → getD b k 0 < 256) → w ≤ 56
+pub done : (s w v m x : ℕ) (b c : List ℕ) → ((k : ℕ) → getD b k 0 < 256) → w ≤ widest
     → x ≡ getBits (8 * (s / 8)) (8 * ((s % 8 + w + 7) / 8)) b
     → m ≡ mix x ((s % 8 + w + 7) / 8 * 8 - (s % 8 + w)) w v
     → Stored (s / 8) ((s % 8 + w + 7) / 8) m 0 b c → c ≡ setBits s w v b

@@ -2,13 +2,14 @@
 // Bits past the last byte read as 0 and are not written, so no caller has to know the length first.
 ghost use mathlib.Core.Path.{_≡_};
 ghost use Prim.Native.Nat.{_+_, _-_, _*_, _/_, _%_, _^_, _≤_, _<_, min};
+ghost use lib.Dec.{ltb};
 ghost use lib.ListN.{getD, set};
 ghost use Rattle.bits.specs.Bits.{getBits, setBits, widest};
 ghost use Rattle.bits.specs.Decimal.{decimalValue, digits, coded, mostDigits};
 ghost use Rattle.bits.specs.Steps.{mix, Stored};
 
 // The most bits of a field, and the most decimal digits.
-const WIDEST: usize = 56;
+pub const WIDEST: usize = 56;
 
 const MOST_DIGITS: usize = 14;
 
@@ -56,9 +57,9 @@ fn window(bytes: &[u8], from: usize, count: usize) -> u64
     x
 }
 
-// The field of `width` bits from bit `start` on: at most 56, so that eight bytes hold it wherever it starts.
+// The field of `width` bits from bit `start` on: few enough that eight bytes hold it wherever it starts.
 fn cut_field(bytes: &[u8], start: usize, width: usize) -> u64
-    requires { ⌜ width ≤ 56 ⌝ }
+    requires { ⌜ width ≤ widest ⌝ }
     ensures { λ r. ⌜ (r ≡ getBits start width (now (bytes .entry))) × (r < 2 ^ width) ⌝ }
 {
     let from = start / 8;
@@ -68,7 +69,7 @@ fn cut_field(bytes: &[u8], start: usize, width: usize) -> u64
     window(bytes, from, count) / two_to(after) % two_to(width)
 }
 
-// The field of `width` bits from bit `start` on; of a wider one than 56 bits, its first 56.
+// The field of `width` bits from bit `start` on; of one wider than the widest, its first bits.
 pub fn read_bits(bytes: &[u8], start: usize, width: usize) -> u64
     ensures { λ r. ⌜ (r ≡ getBits start (min width widest) (now (bytes .entry))) × (r < 2 ^ min width widest) ⌝ }
 {
@@ -100,7 +101,7 @@ fn store(bytes: &mut [u8], from: usize, n: usize, x: u64)
 
 // The window with its field, of which `after` bits follow, replaced.
 fn mixed(old: u64, after: usize, width: usize, value: u64) -> u64
-    requires { ⌜ (width ≤ 56) × (after ≤ 7) ⌝ }
+    requires { ⌜ (width ≤ widest) × (after ≤ 7) ⌝ }
     ensures { λ r. ⌜ r ≡ mix old after width value ⌝ }
 {
     let p = two_to(width);
@@ -108,9 +109,9 @@ fn mixed(old: u64, after: usize, width: usize, value: u64) -> u64
     old - old / t % p * t + value % p * t
 }
 
-// The field of `width` bits, at most 56, from bit `start` on becomes the lowest bits of `value`; every other bit stays.
+// The field of `width` bits from bit `start` on becomes the lowest bits of `value`; every other bit stays.
 fn put_field(bytes: &mut [u8], start: usize, width: usize, value: u64)
-    requires { ⌜ width ≤ 56 ⌝ }
+    requires { ⌜ width ≤ widest ⌝ }
     ensures { λ _. ⌜ now (bytes .exit) ≡ setBits start width value (now (bytes .entry)) ⌝ }
 {
     let from = start / 8;
@@ -122,16 +123,26 @@ fn put_field(bytes: &mut [u8], start: usize, width: usize, value: u64)
     store(bytes, from, count, new);
 }
 
-// The field of `width` bits from bit `start` on, or of a wider one its first 56, becomes the lowest bits of `value`.
+// The field of `width` bits from bit `start` on, or of one wider than the widest its first bits, becomes the lowest bits of `value`.
 pub fn write_bits(bytes: &mut [u8], start: usize, width: usize, value: u64)
     ensures { λ _. ⌜ now (bytes .exit) ≡ setBits start (min width widest) value (now (bytes .entry)) ⌝ }
 {
     put_field(bytes, start, lists::lesser(width, WIDEST), value);
 }
 
+// Whether a number has no more bits than `width`.
+pub fn bits_fit(width: usize, value: u64) -> bool
+    ensures { λ r. ⌜ r ≡ ltb value (2 ^ width) ⌝ }
+{
+    if width < 64 {
+        return value < two_to(width);
+    }
+    true
+}
+
 // The number that the last `count` digits of `code` say.
 fn digits_value(count: usize, code: u64) -> u64
-    requires { ⌜ count ≤ 14 ⌝ }
+    requires { ⌜ count ≤ mostDigits ⌝ }
     ensures { λ r. ⌜ r ≡ decimalValue count code ⌝ }
 {
     let mut value: u64 = 0;
@@ -145,7 +156,7 @@ fn digits_value(count: usize, code: u64) -> u64
 
 // Whether each of the last `count` digits of `code` is at most 9.
 fn digits_good(count: usize, code: u64) -> bool
-    requires { ⌜ count ≤ 14 ⌝ }
+    requires { ⌜ count ≤ mostDigits ⌝ }
     ensures { λ r. ⌜ r ≡ digits count code ⌝ }
 {
     let mut good = true;
@@ -160,7 +171,7 @@ fn digits_good(count: usize, code: u64) -> bool
 
 // The code of the last `count` decimal digits of `value`.
 fn digits_code(count: u64, value: u64) -> u64
-    requires { ⌜ count ≤ 14 ⌝ }
+    requires { ⌜ count ≤ mostDigits ⌝ }
     ensures { λ r. ⌜ r ≡ coded count value ⌝ }
 {
     if count == 0 {
@@ -169,23 +180,36 @@ fn digits_code(count: u64, value: u64) -> u64
     digits_code(count - 1, value / 10) * 16 + value % 10
 }
 
-// The number that the last `count` digits of `code` say; of more than 14 digits, the last 14.
+// The number that the last `count` digits of `code` say; of more digits than the most, the last ones.
 pub fn decimal_value(count: usize, code: u64) -> u64
     ensures { λ r. ⌜ r ≡ decimalValue (min count mostDigits) code ⌝ }
 {
     digits_value(lists::lesser(count, MOST_DIGITS), code)
 }
 
-// Whether each of the last `count` digits of `code`, or of more than 14 the last 14, is at most 9.
+// Whether each of the last `count` digits of `code`, or of more than the most the last ones, is at most 9.
 pub fn decimal_digits(count: usize, code: u64) -> bool
     ensures { λ r. ⌜ r ≡ digits (min count mostDigits) code ⌝ }
 {
     digits_good(lists::lesser(count, MOST_DIGITS), code)
 }
 
-// The code of the last `count` decimal digits of `value`; of more than 14, the last 14.
+// The code of the last `count` decimal digits of `value`; of more than the most, the last ones.
 pub fn decimal_code(count: usize, value: u64) -> u64
     ensures { λ r. ⌜ r ≡ coded (min count mostDigits) value ⌝ }
 {
     digits_code(lists::lesser(count, MOST_DIGITS) as u64, value)
+}
+
+// Whether a number has no more decimal digits than `count`.
+pub fn decimal_fits(count: usize, value: u64) -> bool
+    ensures { λ r. ⌜ r ≡ ltb value (10 ^ count) ⌝ }
+{
+    let mut rest = value;
+    let mut k: usize = 0;
+    while k < count {
+        rest = rest / 10;
+        k += 1;
+    }
+    rest == 0
 }

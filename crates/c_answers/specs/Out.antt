@@ -1,5 +1,5 @@
--- What comes back across the boundary to C and Rust (c/odr.h), for each case of an answer: beside a refusal 0 throughout. FORMAT,
--- "Refusal numbers".
+-- What comes back across the boundary to C and Rust (c/odr.h), for each case of an answer: beside a refusal 0 throughout.
+-- FORMAT, "Refusal numbers".
 use Prim.Native.Nat.{ℕ}
 use mathlib.Core.Bool.{false}
 use lib.IntN.{pos}

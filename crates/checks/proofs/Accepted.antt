@@ -20,7 +20,6 @@ pub record Accepted (j : Judged) : Type 0 where
   pub words : j .bytes ≡ 2 * j .«length_words»
   pub line : SoundLine (j .«sample_rate») (sampleRateOf (j .«sample_rate»))
   pub size : (j .«length_words» ≡ wordsB (sampleRateOf (j .«sample_rate»))) ⊎ (j .«length_words» ≡ wordsA (sampleRateOf (j .«sample_rate»)))
-  pub year : j .year ≤ 99
   pub tag : j .«time_tag» ≤ lastMs
   pub good : j .decimals ≡ true
 
@@ -42,7 +41,6 @@ module _ (j : Judged) (e : first (checks j) ≡ 0) where
         size =
             ⊎-elim (λ p. inl (eqb-true _ _ (not-false _ p))) (λ p. inr (eqb-true _ _ (not-false _ p)))
             (and-false _ _ (at 5));
-        year = ltb-false 99 (j .year) (or-false _ _ (at 7) .0);
         tag = ltb-false lastMs (j .«time_tag») (or-false _ _ (at 8) .0);
         good = not-false (j .decimals) (at 9);
       }

@@ -11,26 +11,26 @@ use lib.Pow.{pow-add}
 use lib.Dec.{T, leb, ltb, eqb, leb→le, ltb→lt, lt→ltb, eqb→eq}
 use lib.ListN.{length, getD}
 use Rattle.lists.proofs.Truth.{left, right}
-use Rattle.bits.specs.Bits.{bitAt, getBits, setBits}
+use Rattle.bits.specs.Bits.{bitAt, getBits, setBits, widest}
 use Rattle.bits.specs.Decimal.{decimalValue, digits, coded}
 use Rattle.bits.proofs.Bits.{getBits-lt, get-set, get-other, set-get, length-setBits, bit-kept}
 use Rattle.bits.proofs.Decimal.{coded-lt, coded-digits, decimal-coded, coded-decimal, decimal-lt}
 use Rattle.fields.specs.declared.Field.{Field}
-use Rattle.fields.specs.Field.{wordOf, bitOf, start, width, isDecimal, digitCount, encoded, decoded, valueOf, withValue, digitsGood, decimalFits, binaryFits, Readable, readable, wholeDigits}
+use Rattle.fields.specs.Field.{wordOf, bitOf, start, width, lastReadableWord, isDecimal, digitCount, encoded, decoded, valueOf, withValue, digitsGood, decimalFits, binaryFits, Readable, readable, wholeDigits}
 
 -- the test gives the facts
 pub is-readable : (f : Field) → T (readable f) → Readable f
 is-readable f t =
-    let words : T (leb 1 (wordOf f) && leb (wordOf f) 4000) = left (leb 1 (wordOf f) && leb (wordOf f) 4000) _ t in
-    let rest : T ((leb 1 (bitOf f) && leb (bitOf f) 16) && leb (width f) 56) =
-    right (leb 1 (wordOf f) && leb (wordOf f) 4000) _ t in
+    let words : T (leb 1 (wordOf f) && leb (wordOf f) lastReadableWord) = left (leb 1 (wordOf f) && leb (wordOf f) lastReadableWord) _ t in
+    let rest : T ((leb 1 (bitOf f) && leb (bitOf f) 16) && leb (width f) widest) =
+    right (leb 1 (wordOf f) && leb (wordOf f) lastReadableWord) _ t in
     let bits : T (leb 1 (bitOf f) && leb (bitOf f) 16) = left (leb 1 (bitOf f) && leb (bitOf f) 16) _ rest in
     record {
       first = leb→le 1 (wordOf f) (left (leb 1 (wordOf f)) _ words);
-      last = leb→le (wordOf f) 4000 (right (leb 1 (wordOf f)) _ words);
+      last = leb→le (wordOf f) lastReadableWord (right (leb 1 (wordOf f)) _ words);
       high = leb→le 1 (bitOf f) (left (leb 1 (bitOf f)) _ bits);
       low = leb→le (bitOf f) 16 (right (leb 1 (bitOf f)) _ bits);
-      narrow = leb→le (width f) 56 (right (leb 1 (bitOf f) && leb (bitOf f) 16) _ rest);
+      narrow = leb→le (width f) widest (right (leb 1 (bitOf f) && leb (bitOf f) 16) _ rest);
     }
 
 -- ## codes, over the kind and the width of a field

@@ -4,7 +4,7 @@ use Prim.Native.Nat.{ℕ, _+_, _-_, _*_, _/_, _%_, _^_, _≤_}
 use mathlib.Core.Bool.{Bool, true, false, cond, _&&_, _||_, not}
 use mathlib.Core.List.{List}
 use lib.Dec.{leb, ltb, eqb}
-use Rattle.bits.specs.Bits.{getBits, setBits}
+use Rattle.bits.specs.Bits.{getBits, setBits, widest}
 use Rattle.bits.specs.Decimal.{decimalValue, digits, coded}
 use Rattle.fields.specs.declared.Field.{Field}
 
@@ -77,25 +77,29 @@ decimalFits f v = not (isDecimal f) || ltb v (10 ^ digitCount f)
 abbrev pub binaryFits : Field → ℕ → Bool
 binaryFits f v = isDecimal f || ltb v (2 ^ width f)
 
--- a field that the code can read: words 1 to 4,000, at most 56 bits
+-- the last word that a field can start in: more than any record has
+abbrev pub lastReadableWord : ℕ
+lastReadableWord = 4000
+
+-- a field that the code can read: one of these words, no wider than the widest
 pub record Readable (f : Field) : Type 0 where
   pub first : 1 ≤ wordOf f
-  pub last : wordOf f ≤ 4000
+  pub last : wordOf f ≤ lastReadableWord
   pub high : 1 ≤ bitOf f
   pub low : bitOf f ≤ 16
-  pub narrow : width f ≤ 56
+  pub narrow : width f ≤ widest
 
 -- the same as a test
 abbrev pub readable : Field → Bool
 readable f =
-    (leb 1 (wordOf f) && leb (wordOf f) 4000)
-    && ((leb 1 (bitOf f) && leb (bitOf f) 16) && leb (width f) 56)
+    (leb 1 (wordOf f) && leb (wordOf f) lastReadableWord)
+    && ((leb 1 (bitOf f) && leb (bitOf f) 16) && leb (width f) widest)
 
 -- a decimal field has whole digits
 abbrev pub wholeDigits : Field → Bool
 wholeDigits f = not (isDecimal f) || eqb (width f % 4) 0
 
--- what the code reads, writes and judges: of a field that is not readable 0, nothing, and no digit
+-- what the code reads, writes and judges: of a field that is not readable 0, nothing, no digit and no value
 abbrev pub readValue : Field → List ℕ → ℕ
 readValue f b = cond (readable f) (valueOf f b) 0
 
@@ -104,3 +108,9 @@ writeValue f v b = cond (readable f) (withValue f v b) b
 
 abbrev pub goodDigits : Field → List ℕ → Bool
 goodDigits f b = not (readable f) || digitsGood f b
+
+abbrev pub fitsBinary : Field → ℕ → Bool
+fitsBinary f v = not (readable f) || binaryFits f v
+
+abbrev pub fitsDecimal : Field → ℕ → Bool
+fitsDecimal f v = not (readable f) || decimalFits f v

@@ -1,7 +1,7 @@
 // One field of a header, read and written as its row of the format's table says. FORMAT, "The record".
 // A field that no format has, such as one of word 0 or of 60 bits, reads as 0 and is not written.
 ghost use mathlib.Core.Path.{_≡_};
-ghost use Rattle.fields.specs.Field.{start, encoded, valueOf, withValue, digitsGood, Readable, readable, readValue, writeValue, goodDigits};
+ghost use Rattle.fields.specs.Field.{start, encoded, valueOf, withValue, digitsGood, Readable, readable, readValue, writeValue, goodDigits, fitsBinary, fitsDecimal};
 
 // A field: its word and first bit, both counted from 1, its width in bits, and whether it holds decimal digits.
 pub struct Field(pub usize, pub usize, pub usize, pub bool);
@@ -15,12 +15,16 @@ fn first_bit(f: Field) -> usize
     16 * (word - 1) + (bit - 1)
 }
 
-// Whether the field is one that can be read: words 1 to 4,000, bits 1 to 16, at most 56 bits.
+// The last word that a field can start in: more than any record has.
+const LAST_READABLE_WORD: usize = 4000;
+
+// Whether the field is one that can be read: one of these words, bits 1 to 16, and no wider than the widest.
 fn is_readable(f: Field) -> bool
     ensures { λ r. ⌜ r ≡ readable f ⌝ }
 {
     let Field(word, bit, width, _) = f;
-    ((1 <= word) & (word <= 4000)) & (((1 <= bit) & (bit <= 16)) & (width <= 56))
+    ((1 <= word) & (word <= LAST_READABLE_WORD))
+        & (((1 <= bit) & (bit <= 16)) & (width <= bits::WIDEST))
 }
 
 // What a readable field holds.
@@ -97,4 +101,24 @@ pub fn write_field(bytes: &mut [u8], f: Field, value: u64)
     if is_readable(f) {
         put_value(bytes, f, value);
     }
+}
+
+// Whether a value has no more bits than the field, if that is binary.
+pub fn binary_fits(f: Field, value: u64) -> bool
+    ensures { λ r. ⌜ r ≡ fitsBinary f value ⌝ }
+{
+    let Field(_, _, width, decimal) = f;
+    let fits = bits::bits_fit(width, value);
+    let no_field = !is_readable(f);
+    no_field | (decimal | fits)
+}
+
+// Whether a value has no more digits than the field, if that is decimal.
+pub fn decimal_fits(f: Field, value: u64) -> bool
+    ensures { λ r. ⌜ r ≡ fitsDecimal f value ⌝ }
+{
+    let Field(_, _, width, decimal) = f;
+    let fits = bits::decimal_fits(width / 4, value);
+    let no_field = !is_readable(f);
+    no_field | (!decimal | fits)
 }

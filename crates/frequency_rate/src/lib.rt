@@ -1,5 +1,5 @@
-// The frequency rate of a record. FORMAT, "Frequency rate". Every public function takes any bytes; a refusal is a number, and 0 is
-// none.
+// The frequency rate of a record. FORMAT, "Frequency rate". Every public function takes any bytes; a refusal is a number, and 0
+// is none.
 ghost use mathlib.Core.Path.{_≡_};
 ghost use Prim.Native.Nat.{_^_, _≤_, _<_};
 ghost use Rattle.frequency_rate.specs.FrequencyRate.{mostDigits, frequencyRateUnits, frequencyRateOf, frequencyRateAnswer, shownFrequencyRate};

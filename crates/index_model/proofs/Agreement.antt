@@ -35,36 +35,28 @@ use Rattle.index_model.proofs.Totals.{
 use Rattle.index_model.proofs.Sound.{Sound, SoundLedger, small-rows}
 use Rattle.index_model.proofs.Limits.{in-window, full-most}
 use Rattle.index_model.proofs.Seconds.{Inside, leaveFor, length-second, second-at}
+use Rattle.index_model.proofs.Window.{F, C, R}
 
 module _ (o : Opening) where
-  abbrev F : ℕ
-  F = o .«first_second»
-
-  abbrev C : ℕ
-  C = o .«second_count»
-
-  abbrev R : ℕ
-  R = o .«highest_number»
-
   -- no second has more than L records, and each record is one that the index may hold
   pub record Regular (L : Ledger) : Type 0 where
-    pub few : (s : ℕ) → cellTotal L s 0 R ≤ fullCount o
+    pub few : (s : ℕ) → cellTotal L s 0 (R o) ≤ fullCount o
     pub sound : SoundLedger o L
 
   -- the rows are those of the ledger's records, and the cells of each second those of its records
   pub record Agree (L : Ledger) (c : Buffers) : Type 0 where
-    pub rows-long : width * R ≤ length (c .rows)
-    pub seconds-long : width * C ≤ length (c .seconds)
-    pub rows-are : RowsOf R L (c .rows)
-    pub seconds-are : (k : ℕ) → k < C → (j : ℕ) → j < width → cell (c .seconds) k j ≡ cellTotal L (F + k) j R
+    pub rows-long : width * R o ≤ length (c .rows)
+    pub seconds-long : width * C o ≤ length (c .seconds)
+    pub rows-are : RowsOf (R o) L (c .rows)
+    pub seconds-are : (k : ℕ) → k < C o → (j : ℕ) → j < width → cell (c .seconds) k j ≡ cellTotal L (F o + k) j (R o)
 
-  pub few-fit : (L : Ledger) → Regular L → (s j : ℕ) → isGreatest j ≡ false → cellTotal L s j R < cellLimit
-  few-fit L g s j e = sums-fit L (small-rows (g .sound)) s j R (omega (arith, g .few s, full-most o)) e
+  pub few-fit : (L : Ledger) → Regular L → (s j : ℕ) → isGreatest j ≡ false → cellTotal L s j (R o) < cellLimit
+  few-fit L g s j e = sums-fit L (small-rows (g .sound)) s j (R o) (omega (arith, g .few s, full-most o)) e
 
   -- a pass over the rows gives a second's cells
-  pub pass-is : (L : Ledger) → Regular L → (rows : List ℕ) → RowsOf R L rows → (s j : ℕ) → j < width
-      → getD (secondFrom rows s R) j 0 ≡ cellTotal L s j R
-  pass-is L g rows are s j h = second-at rows s R j h ∙ passed R L rows are s j h R (omega arith) (few-fit L g s j)
+  pub pass-is : (L : Ledger) → Regular L → (rows : List ℕ) → RowsOf (R o) L rows → (s j : ℕ) → j < width
+      → getD (secondFrom rows s (R o)) j 0 ≡ cellTotal L s j (R o)
+  pass-is L g rows are s j h = second-at rows s (R o) j h ∙ passed (R o) L rows are s j h (R o) (omega arith) (few-fit L g s j)
 
   -- ## the ledger with one entry changed
 
@@ -76,12 +68,12 @@ module _ (o : Opening) where
       by-test true e = h b e
       by-test false e = g m b e
 
-  module _ (L : Ledger) (g : Regular L) (n : ℕ) (p : 0 < n) (q : n ≤ R) where
+  module _ (L : Ledger) (g : Regular L) (n : ℕ) (p : 0 < n) (q : n ≤ R o) where
     pub inside : Inside o (L n)
     inside b e = g .sound n b e .window
 
-    pub count-own : (s : ℕ) → cellTotal L s 0 R ≡ cellTotal (withEntry L n none) s 0 R + share s 0 (L n)
-    count-own s = own-share L n s 0 R p q ∙ count-sum (cellTotal (withEntry L n none) s 0 R) (share s 0 (L n))
+    pub count-own : (s : ℕ) → cellTotal L s 0 (R o) ≡ cellTotal (withEntry L n none) s 0 (R o) + share s 0 (L n)
+    count-own s = own-share L n s 0 (R o) p q ∙ count-sum (cellTotal (withEntry L n none) s 0 (R o)) (share s 0 (L n))
 
     pub regular-without : Regular (withEntry L n none)
     regular-without =
@@ -90,7 +82,7 @@ module _ (o : Opening) where
           sound = entry-cases L n none (g .sound) (λ b e. absurd (let z : _≡_ {A = ℕ} 0 1 = cc in omega arith));
         }
 
-    pub regular-with : (b : List ℕ) → Sound o b → cellTotal (withEntry L n none) (secondOf b) 0 R < fullCount o
+    pub regular-with : (b : List ℕ) → Sound o b → cellTotal (withEntry L n none) (secondOf b) 0 (R o) < fullCount o
         → Regular (withEntry L n (some b))
     regular-with b h room =
         record {
@@ -98,10 +90,10 @@ module _ (o : Opening) where
           sound = entry-cases L n (some b) (g .sound) (λ x e. subst (Sound o) (let z : b ≡ x = cc in z) h);
         }
       where
-        count : (s : ℕ) → cellTotal (withEntry L n (some b)) s 0 R ≡ cellTotal (withEntry L n none) s 0 R + share s 0 (some b)
-        count s = one-share L n (some b) s 0 R p q ∙ count-sum (cellTotal (withEntry L n none) s 0 R) (share s 0 (some b))
+        count : (s : ℕ) → cellTotal (withEntry L n (some b)) s 0 (R o) ≡ cellTotal (withEntry L n none) s 0 (R o) + share s 0 (some b)
+        count s = one-share L n (some b) s 0 (R o) p q ∙ count-sum (cellTotal (withEntry L n none) s 0 (R o)) (share s 0 (some b))
 
-        by-test : (s : ℕ) (t : Bool) → eqb (secondOf b) s ≡ t → cellTotal (withEntry L n (some b)) s 0 R ≤ fullCount o
+        by-test : (s : ℕ) (t : Bool) → eqb (secondOf b) s ≡ t → cellTotal (withEntry L n (some b)) s 0 (R o) ≤ fullCount o
         by-test s true e =
             omega (
               arith,
@@ -109,13 +101,13 @@ module _ (o : Opening) where
               share-all s 0 b e,
               row-records b,
               subst
-                  (λ (x : ℕ). cellTotal (withEntry L n none) x 0 R < fullCount o) (eqb-true (secondOf b) s e) room,
+                  (λ (x : ℕ). cellTotal (withEntry L n none) x 0 (R o) < fullCount o) (eqb-true (secondOf b) s e) room,
             )
         by-test s false e = omega (arith, count s, share-none s 0 (some b) e, regular-without .few s)
 
   -- ## the cells with one row changed
 
-  module _ (L : Ledger) (c : Buffers) (agree : Agree L c) (n : ℕ) (p : 0 < n) (q : n ≤ R) where
+  module _ (L : Ledger) (c : Buffers) (agree : Agree L c) (n : ℕ) (p : 0 < n) (q : n ≤ R o) where
     pub row-fits : width * (n - 1) + width ≤ length (c .rows)
     row-fits = omega (arith, agree .rows-long)
 
@@ -128,10 +120,10 @@ module _ (o : Opening) where
     pub old-within : (s : ℕ) → rowWithin (c .rows) (n - 1) s ≡ isOf s (L n)
     old-within s =
         let z : suc (n - 1) ≡ n = omega arith in
-        within-is R L (c .rows) (agree .rows-are) (n - 1) s (omega arith) ∙ (λ t. isOf s (L (z t)))
+        within-is (R o) L (c .rows) (agree .rows-are) (n - 1) s (omega arith) ∙ (λ t. isOf s (L (z t)))
 
     -- and replaced
-    pub rows-after : (held : Option (List ℕ)) → RowsOf R (withEntry L n held) (withBlock (c .rows) (n - 1) (rowFor held))
+    pub rows-after : (held : Option (List ℕ)) → RowsOf (R o) (withEntry L n held) (withBlock (c .rows) (n - 1) (rowFor held))
     rows-after held i hi j hj = by-test (eqb (suc i) n) refl
       where
         by-test : (t : Bool) → eqb (suc i) n ≡ t → cell (withBlock (c .rows) (n - 1) (rowFor held)) i j
@@ -146,30 +138,30 @@ module _ (o : Opening) where
             ∙ agree .rows-are i hi j hj
 
     -- the second that is left, worked out anew, and every other second as it was
-    pub left-cells : (held : Option (List ℕ)) → Inside o held → (L' : Ledger) → Regular L' → (rows : List ℕ) → RowsOf R L' rows
-        → (k : ℕ) → k < C → (j : ℕ) → j < width → cell (leaveFor o rows held (c .seconds)) k j
-        ≡ cond (isOf (F + k) held) (cellTotal L' (F + k) j R) (cellTotal L (F + k) j R)
+    pub left-cells : (held : Option (List ℕ)) → Inside o held → (L' : Ledger) → Regular L' → (rows : List ℕ) → RowsOf (R o) L' rows
+        → (k : ℕ) → k < C o → (j : ℕ) → j < width → cell (leaveFor o rows held (c .seconds)) k j
+        ≡ cond (isOf (F o + k) held) (cellTotal L' (F o + k) j (R o)) (cellTotal L (F o + k) j (R o))
     left-cells none h L' g rows are k hk j hj = agree .seconds-are k hk j hj
-    left-cells (some b) h L' g rows are k hk j hj = by-test (eqb (secondOf b) (F + k)) refl
+    left-cells (some b) h L' g rows are k hk j hj = by-test (eqb (secondOf b) (F o + k)) refl
       where
         s : ℕ
         s = secondOf b
 
-        w : (F ≤ s) × (s < F + C)
+        w : (F o ≤ s) × (s < F o + C o)
         w = in-window o s (h b refl)
 
         room : width * placeOf o s + width ≤ length (c .seconds)
         room = omega (arith, w .0, w .1, agree .seconds-long)
 
-        by-test : (t : Bool) → eqb s (F + k) ≡ t → cell (withBlock (c .seconds) (placeOf o s) (secondFrom rows s R)) k j
-            ≡ cond t (cellTotal L' (F + k) j R) (cellTotal L (F + k) j R)
+        by-test : (t : Bool) → eqb s (F o + k) ≡ t → cell (withBlock (c .seconds) (placeOf o s) (secondFrom rows s (R o))) k j
+            ≡ cond t (cellTotal L' (F o + k) j (R o)) (cellTotal L (F o + k) j (R o))
         by-test true e =
-            let z : k ≡ s - F = omega (arith, eqb-true s (F + k) e) in
-            (λ t. cell (withBlock (c .seconds) (placeOf o s) (secondFrom rows s R)) (z t) j)
-            ∙ at-block (c .seconds) (placeOf o s) (secondFrom rows s R) room (length-second rows s R) j hj
+            let z : k ≡ s - F o = omega (arith, eqb-true s (F o + k) e) in
+            (λ t. cell (withBlock (c .seconds) (placeOf o s) (secondFrom rows s (R o))) (z t) j)
+            ∙ at-block (c .seconds) (placeOf o s) (secondFrom rows s (R o)) room (length-second rows s (R o)) j hj
             ∙ pass-is L' g rows are s j hj
-            ∙ (λ t. cellTotal L' (eqb-true s (F + k) e t) j R)
+            ∙ (λ t. cellTotal L' (eqb-true s (F o + k) e t) j (R o))
         by-test false e =
-            at-other (c .seconds) (placeOf o s) (secondFrom rows s R) room (length-second rows s R) k j hj
-            (λ z. eqb-false s (F + k) e (omega (arith, z, w .0)))
+            at-other (c .seconds) (placeOf o s) (secondFrom rows s (R o)) room (length-second rows s (R o)) k j hj
+            (λ z. eqb-false s (F o + k) e (omega (arith, z, w .0)))
             ∙ agree .seconds-are k hk j hj

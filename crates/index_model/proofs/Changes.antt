@@ -46,6 +46,7 @@ use Rattle.index_model.proofs.Agreement.{
   rows-after,
   left-cells,
 }
+use Rattle.index_model.proofs.Window.{F, C, R}
 
 -- what holds once number n has another entry: the cells are those of the ledger, and no cell changed but those of the row and
 -- of the seconds that the two entries are of
@@ -55,20 +56,11 @@ pub record Changed (o : Opening) (L : Ledger) (n : ℕ) (entry : Option (List �
   pub rows-length : length (new .rows) ≡ length (old .rows)
   pub seconds-length : length (new .seconds) ≡ length (old .seconds)
   pub rows : (m : ℕ) → eqb (suc (m / width)) n ≡ false → getD (new .rows) m 0 ≡ getD (old .rows) m 0
-  pub seconds : (m : ℕ) → isOf (o .«first_second» + m / width) (L n) ≡ false → isOf (o .«first_second» + m / width) entry ≡ false
+  pub seconds : (m : ℕ) → isOf (F o + m / width) (L n) ≡ false → isOf (F o + m / width) entry ≡ false
       → getD (new .seconds) m 0 ≡ getD (old .seconds) m 0
 
 module _ (o : Opening) (L : Ledger) (c : Buffers) (regular : Regular o L) (agree : Agree o L c) (n : ℕ) (p : 0 < n)
-    (q : n ≤ o .«highest_number») where
-  abbrev F : ℕ
-  F = o .«first_second»
-
-  abbrev C : ℕ
-  C = o .«second_count»
-
-  abbrev R : ℕ
-  R = o .«highest_number»
-
+    (q : n ≤ R o) where
   -- the rows with the number's entry changed, and the seconds once the old entry has left
   abbrev rowsWith : Option (List ℕ) → List ℕ
   rowsWith held = withBlock (c .rows) (n - 1) (rowFor held)
@@ -86,18 +78,18 @@ module _ (o : Opening) (L : Ledger) (c : Buffers) (regular : Regular o L) (agree
   left-length : (held : Option (List ℕ)) → length (secondsLeft held) ≡ length (c .seconds)
   left-length held = length-leave o (rowsWith held) (L n) (c .seconds) (inside o L regular n p q) (agree .seconds-long)
 
-  left-are : (held : Option (List ℕ)) → Regular o (withEntry L n held) → (k : ℕ) → k < C → (j : ℕ) → j < width
+  left-are : (held : Option (List ℕ)) → Regular o (withEntry L n held) → (k : ℕ) → k < C o → (j : ℕ) → j < width
       → cell (secondsLeft held) k j
-      ≡ cond (isOf (F + k) (L n)) (cellTotal (withEntry L n held) (F + k) j R) (cellTotal L (F + k) j R)
+      ≡ cond (isOf (F o + k) (L n)) (cellTotal (withEntry L n held) (F o + k) j (R o)) (cellTotal L (F o + k) j (R o))
   left-are held g =
       left-cells o L c agree n p q (L n) (inside o L regular n p q) (withEntry L n held) g (rowsWith held)
       (rows-after o L c agree n p q held)
 
   -- a second that the new entry is not of is right once the old entry has left
-  settled : (held : Option (List ℕ)) (k j : ℕ) → isOf (F + k) held ≡ false → (t : Bool) → isOf (F + k) (L n) ≡ t
-      → cond t (cellTotal (withEntry L n held) (F + k) j R) (cellTotal L (F + k) j R) ≡ cellTotal (withEntry L n held) (F + k) j R
+  settled : (held : Option (List ℕ)) (k j : ℕ) → isOf (F o + k) held ≡ false → (t : Bool) → isOf (F o + k) (L n) ≡ t
+      → cond t (cellTotal (withEntry L n held) (F o + k) j (R o)) (cellTotal L (F o + k) j (R o)) ≡ cellTotal (withEntry L n held) (F o + k) j (R o)
   settled held k j e true et = refl
-  settled held k j e false et = sym (stays L n (F + k) j R held p q et e)
+  settled held k j e false et = sym (stays L n (F o + k) j (R o) held p q et e)
 
   rows-length : (held : Option (List ℕ)) → length (rowsWith held) ≡ length (c .rows)
   rows-length held = length-with (c .rows) (n - 1) (rowFor held) (row-fits o L c agree n p q) (row-for-length held)
@@ -107,7 +99,7 @@ module _ (o : Opening) (L : Ledger) (c : Buffers) (regular : Regular o L) (agree
       elsewhere (c .rows) (n - 1) (rowFor held) (row-fits o L c agree n p q) (row-for-length held) m
       (λ z. eqb-false (suc (m / width)) n e (omega (arith, z)))
 
-  left-frame : (held : Option (List ℕ)) (m : ℕ) → isOf (F + m / width) (L n) ≡ false
+  left-frame : (held : Option (List ℕ)) (m : ℕ) → isOf (F o + m / width) (L n) ≡ false
       → getD (secondsLeft held) m 0 ≡ getD (c .seconds) m 0
   left-frame held m e = leave-frame o (rowsWith held) (L n) (c .seconds) (inside o L regular n p q) (agree .seconds-long) m e
 
@@ -127,7 +119,7 @@ module _ (o : Opening) (L : Ledger) (c : Buffers) (regular : Regular o L) (agree
             λ k hk j hj.
             (λ t. cell (taken-is t) k j)
             ∙ left-are none (regular-without o L regular n p q) k hk j hj
-            ∙ settled none k j refl (isOf (F + k) (L n)) refl;
+            ∙ settled none k j refl (isOf (F o + k) (L n)) refl;
       }
 
   pub taken-changed : Changed o L n none c (rowRemoved o (n - 1) c)
@@ -143,7 +135,7 @@ module _ (o : Opening) (L : Ledger) (c : Buffers) (regular : Regular o L) (agree
 
   -- ## put
 
-  module _ (b : List ℕ) (sound : Sound o b) (room : cellTotal (withEntry L n none) (secondOf b) 0 R < fullCount o) where
+  module _ (b : List ℕ) (sound : Sound o b) (room : cellTotal (withEntry L n none) (secondOf b) 0 (R o) < fullCount o) where
     abbrev s : ℕ
     s = secondOf b
 
@@ -157,23 +149,23 @@ module _ (o : Opening) (L : Ledger) (c : Buffers) (regular : Regular o L) (agree
     unfolding secondsInserted
     put-is = λ t. join (old-within o L c agree n p q s t) (left-is (some b) t) (placeOf o s) (rowOf b)
 
-    long : width * C ≤ length (secondsLeft (some b))
+    long : width * C o ≤ length (secondsLeft (some b))
     long = omega (arith, agree .seconds-long, left-length (some b))
 
-    w : (F ≤ s) × (s < F + C)
+    w : (F o ≤ s) × (s < F o + C o)
     w = in-window o s (sound .window)
 
     -- the second that is joined: its other records' totals, merged with the row
-    added : (k j : ℕ) → k < C → j < width → eqb s (F + k) ≡ true → isOf (F + k) (L n) ≡ false
+    added : (k j : ℕ) → k < C o → j < width → eqb s (F o + k) ≡ true → isOf (F o + k) (L n) ≡ false
         → cell (withBlock (secondsLeft (some b)) (placeOf o s) (merged (blockAt (secondsLeft (some b)) (placeOf o s)) (rowOf b)))
-        k j ≡ cellTotal new (F + k) j R
+        k j ≡ cellTotal new (F o + k) j (R o)
     added k j hk hj e e' =
         (λ t. cell (withBlock seconds (placeOf o s) (merged part (rowOf b))) (z t) j)
         ∙ at-block seconds (placeOf o s) (merged part (rowOf b)) (omega (arith, w .0, w .1, long))
         (length-merged part (rowOf b)) j hj
         ∙ merged-at part (rowOf b) j hj
         ∙ (λ t. mergeBy g (before t) x)
-        ∙ exact g others x (λ h. subst (λ (y : ℕ). y < cellLimit) is (few-fit o new new-regular (F + k) j h))
+        ∙ exact g others x (λ h. subst (λ (y : ℕ). y < cellLimit) is (few-fit o new new-regular (F o + k) j h))
         ∙ sym is
       where
         seconds : List ℕ
@@ -189,49 +181,49 @@ module _ (o : Opening) (L : Ledger) (c : Buffers) (regular : Regular o L) (agree
         x = getD (rowOf b) j 0
 
         others : ℕ
-        others = cellTotal (withEntry L n none) (F + k) j R
+        others = cellTotal (withEntry L n none) (F o + k) j (R o)
 
         z : k ≡ placeOf o s
-        z = omega (arith, eqb-true s (F + k) e)
+        z = omega (arith, eqb-true s (F o + k) e)
 
         before : getD part j 0 ≡ others
         before =
             block-at seconds (placeOf o s) j hj
             ∙ (λ t. cell seconds (sym z t) j)
             ∙ left-are (some b) new-regular k hk j hj
-            ∙ (λ t. cond (e' t) (cellTotal new (F + k) j R) (cellTotal L (F + k) j R))
-            ∙ own-share L n (F + k) j R p q
-            ∙ (λ t. plainBy g others (share-none (F + k) j (L n) e' t))
+            ∙ (λ t. cond (e' t) (cellTotal new (F o + k) j (R o)) (cellTotal L (F o + k) j (R o)))
+            ∙ own-share L n (F o + k) j (R o) p q
+            ∙ (λ t. plainBy g others (share-none (F o + k) j (L n) e' t))
             ∙ plain-none g others
 
-        is : cellTotal new (F + k) j R ≡ plainBy g others x
-        is = one-share L n (some b) (F + k) j R p q ∙ (λ t. plainBy g others (share-all (F + k) j b e t))
+        is : cellTotal new (F o + k) j (R o) ≡ plainBy g others x
+        is = one-share L n (some b) (F o + k) j (R o) p q ∙ (λ t. plainBy g others (share-all (F o + k) j b e t))
 
-    put-seconds : (k : ℕ) → k < C → (j : ℕ) → j < width
-        → cell (join (isOf s (L n)) (secondsLeft (some b)) (placeOf o s) (rowOf b)) k j ≡ cellTotal new (F + k) j R
+    put-seconds : (k : ℕ) → k < C o → (j : ℕ) → j < width
+        → cell (join (isOf s (L n)) (secondsLeft (some b)) (placeOf o s) (rowOf b)) k j ≡ cellTotal new (F o + k) j (R o)
     unfolding join
-    put-seconds k hk j hj = by-tests (isOf s (L n)) refl (eqb s (F + k)) refl
+    put-seconds k hk j hj = by-tests (isOf s (L n)) refl (eqb s (F o + k)) refl
       where
         seconds : List ℕ
         seconds = secondsLeft (some b)
 
-        here : (t : Bool) → eqb s (F + k) ≡ true → isOf s (L n) ≡ t → isOf (F + k) (L n) ≡ t
-        here t e e' = (λ i. isOf (sym (eqb-true s (F + k) e) i) (L n)) ∙ e'
+        here : (t : Bool) → eqb s (F o + k) ≡ true → isOf s (L n) ≡ t → isOf (F o + k) (L n) ≡ t
+        here t e e' = (λ i. isOf (sym (eqb-true s (F o + k) e) i) (L n)) ∙ e'
 
-        by-tests : (t : Bool) → isOf s (L n) ≡ t → (u : Bool) → eqb s (F + k) ≡ u
+        by-tests : (t : Bool) → isOf s (L n) ≡ t → (u : Bool) → eqb s (F o + k) ≡ u
             → cell (cond t seconds (withBlock seconds (placeOf o s) (merged (blockAt seconds (placeOf o s)) (rowOf b)))) k j
-            ≡ cellTotal new (F + k) j R
+            ≡ cellTotal new (F o + k) j (R o)
         by-tests true et true eu =
             left-are (some b) new-regular k hk j hj
-            ∙ (λ i. cond (here true eu et i) (cellTotal new (F + k) j R) (cellTotal L (F + k) j R))
-        by-tests true et false eu = left-are (some b) new-regular k hk j hj ∙ settled (some b) k j eu (isOf (F + k) (L n)) refl
+            ∙ (λ i. cond (here true eu et i) (cellTotal new (F o + k) j (R o)) (cellTotal L (F o + k) j (R o)))
+        by-tests true et false eu = left-are (some b) new-regular k hk j hj ∙ settled (some b) k j eu (isOf (F o + k) (L n)) refl
         by-tests false et true eu = added k j hk hj eu (here false eu et)
         by-tests false et false eu =
             at-other seconds (placeOf o s) (merged (blockAt seconds (placeOf o s)) (rowOf b)) (omega (arith, w .0, w .1, long))
             (length-merged (blockAt seconds (placeOf o s)) (rowOf b)) k j hj
-            (λ z. eqb-false s (F + k) eu (omega (arith, z, w .0)))
+            (λ z. eqb-false s (F o + k) eu (omega (arith, z, w .0)))
             ∙ left-are (some b) new-regular k hk j hj
-            ∙ settled (some b) k j eu (isOf (F + k) (L n)) refl
+            ∙ settled (some b) k j eu (isOf (F o + k) (L n)) refl
 
     put-length : length (rowInserted o (n - 1) s (rowOf b) c .seconds) ≡ length (c .seconds)
     put-length =

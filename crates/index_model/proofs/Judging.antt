@@ -55,6 +55,7 @@ use Rattle.index_model.proofs.Measures.{measured, measures-records}
 use Rattle.index_model.proofs.Decoded.{second-decoded}
 use Rattle.index_model.proofs.Limits.{in-window, in-range, same-rate, opening-fine}
 use Rattle.index_model.proofs.Agreement.{Regular, Agree, few-fit, count-own, regular-without, old-row, old-within}
+use Rattle.index_model.proofs.Window.{F, C, R}
 
 leb-same : (a b c d : ℕ) → (a ≤ b → c ≤ d) → (b < a → d < c) → leb a b ≡ leb c d
 leb-same a b c d f g =
@@ -67,8 +68,8 @@ module _ (o : Opening) (L : Ledger) where
   pub record Entering (b : List ℕ) : Type 0 where
     pub sound : Sound o b
     pub above : 0 < numberOf b
-    pub below : numberOf b ≤ o .«highest_number»
-    pub room : length (recordsOf (withEntry L (numberOf b) none) (secondOf b) (o .«highest_number»)) < perSecond o
+    pub below : numberOf b ≤ R o
+    pub room : length (recordsOf (withEntry L (numberOf b) none) (secondOf b) (R o)) < perSecond o
 
   pub put-accepted : (b : List ℕ) → ledgerInsert o L b ≡ 0 → Entering b
   unfolding ledgerInsert ledgerFull
@@ -99,7 +100,7 @@ module _ (o : Opening) (L : Ledger) where
       at : (k : ℕ) → getD checks k (0 when false) .applies ≡ false
       at k = none-applies checks k tt (both .1)
 
-  pub take-accepted : (n : ℕ) → ledgerRemove o L n ≡ 0 → (0 < n) × (n ≤ o .«highest_number»)
+  pub take-accepted : (n : ℕ) → ledgerRemove o L n ≡ 0 → (0 < n) × (n ≤ R o)
   unfolding ledgerRemove
   take-accepted n e = in-range o n (none-applies (16 when isOutside o n ∷ 19 when not (isHeld (L n)) ∷ []) 0 tt e)
 
@@ -107,41 +108,32 @@ module _ (o : Opening) (L : Ledger) where
 
 module _ (o : Opening) (fine : limitsWrong o || heldWrong o ≡ false) (L : Ledger) (c : Buffers) (regular : Regular o L)
     (agree : Agree o L c) where
-  abbrev F : ℕ
-  F = o .«first_second»
-
-  abbrev C : ℕ
-  C = o .«second_count»
-
-  abbrev R : ℕ
-  R = o .«highest_number»
-
   pub opening-accepted : openingRefusal o c ≡ 0
   opening-accepted = opening-fine o c fine (agree .rows-long) (agree .seconds-long)
 
   -- the records of other numbers in a second
-  pub others-count : (n s : ℕ) → 0 < n → n ≤ R → length (recordsOf (withEntry L n none) s R)
-      ≡ cellTotal (withEntry L n none) s 0 R
-  others-count n s p q = sym (measured (measures-records o) (withEntry L n none) (regular-without o L regular n p q .sound) s R)
+  pub others-count : (n s : ℕ) → 0 < n → n ≤ R o → length (recordsOf (withEntry L n none) s (R o))
+      ≡ cellTotal (withEntry L n none) s 0 (R o)
+  others-count n s p q = sym (measured (measures-records o) (withEntry L n none) (regular-without o L regular n p q .sound) s (R o))
 
   full-is : (n s : ℕ) → isOutside o n ≡ false → not (inWindow o s) ≡ false → isFull o (n - 1) s c ≡ ledgerFull o L n s
   unfolding isFull ledgerFull
   full-is n s e e' =
       (λ t. leb (fullCount o + own t) (count t))
-      ∙ leb-same (fullCount o + share s 0 (L n)) (cellTotal L s 0 R) (perSecond o) (length (recordsOf (withEntry L n none) s R))
+      ∙ leb-same (fullCount o + share s 0 (L n)) (cellTotal L s 0 (R o)) (perSecond o) (length (recordsOf (withEntry L n none) s (R o)))
       (λ h. omega (arith, count-own o L regular n (range .0) (range .1) s, others-count n s (range .0) (range .1)))
       (λ h. omega (arith, count-own o L regular n (range .0) (range .1) s, others-count n s (range .0) (range .1)))
     where
-      range : (0 < n) × (n ≤ R)
+      range : (0 < n) × (n ≤ R o)
       range = in-range o n e
 
-      w : (F ≤ s) × (s < F + C)
+      w : (F o ≤ s) × (s < F o + C o)
       w = in-window o s (not-false (inWindow o s) e')
 
-      count : cell (c .seconds) (placeOf o s) 0 ≡ cellTotal L s 0 R
+      count : cell (c .seconds) (placeOf o s) 0 ≡ cellTotal L s 0 (R o)
       count =
           agree .seconds-are (placeOf o s) (omega (arith, w .0, w .1)) 0 (omega arith)
-          ∙ (λ t. cellTotal L ((let z : F + (s - F) ≡ s = omega (arith, w .0) in z) t) 0 R)
+          ∙ (λ t. cellTotal L ((let z : F o + (s - F o) ≡ s = omega (arith, w .0) in z) t) 0 (R o))
 
       own : flag (rowWithin (c .rows) (n - 1) s) ≡ share s 0 (L n)
       own = (λ t. flag (old-within o L c agree n (range .0) (range .1) s t)) ∙ sym (share-count s (L n))
@@ -182,14 +174,14 @@ module _ (o : Opening) (fine : limitsWrong o || heldWrong o ≡ false) (L : Ledg
   pub shown-is : (s : ℕ) → inWindow o s ≡ true → secondShown o (blockAt (c .seconds) (placeOf o s)) ≡ ledgerSecond o L s
   shown-is s e =
       ap (secondShown o)
-      (block-cells (c .seconds) (placeOf o s) (omega (arith, w .0, w .1, agree .seconds-long)) (λ (j : ℕ). cellTotal L s j R)
-      (λ j h. agree .seconds-are (placeOf o s) (omega (arith, w .0, w .1)) j h ∙ (λ t. cellTotal L (z t) j R)))
+      (block-cells (c .seconds) (placeOf o s) (omega (arith, w .0, w .1, agree .seconds-long)) (λ (j : ℕ). cellTotal L s j (R o))
+      (λ j h. agree .seconds-are (placeOf o s) (omega (arith, w .0, w .1)) j h ∙ (λ t. cellTotal L (z t) j (R o))))
       ∙ second-decoded o L (regular .sound) s
     where
-      w : (F ≤ s) × (s < F + C)
+      w : (F o ≤ s) × (s < F o + C o)
       w = in-window o s e
 
-      z : F + (s - F) ≡ s
+      z : F o + (s - F o) ≡ s
       z = omega (arith, w .0)
 
   pub ask-answered : (s : ℕ) → queryAnswer o s c ≡ ledgerQuery o L s
@@ -206,7 +198,7 @@ module _ (o : Opening) (fine : limitsWrong o || heldWrong o ≡ false) (L : Ledg
 
   -- ## the test
 
-  rows-inside : (m : ℕ) → m ≤ R → rowsInside o (c .rows) m ≡ true
+  rows-inside : (m : ℕ) → m ≤ R o → rowsInside o (c .rows) m ≡ true
   unfolding rowsInside
   rows-inside zero q = refl
   rows-inside (suc m) q =
@@ -220,23 +212,23 @@ module _ (o : Opening) (fine : limitsWrong o || heldWrong o ≡ false) (L : Ledg
       by-entry none h = refl
       by-entry (some b) h = (λ t. eqb (row-records b t) 0 || inWindow o (row-second b t)) ∙ h b refl .window
 
-  cells-right : (k : ℕ) → k < C → (m : ℕ) → m ≤ width → cellsRight o c k m ≡ true
+  cells-right : (k : ℕ) → k < C o → (m : ℕ) → m ≤ width → cellsRight o c k m ≡ true
   unfolding cellsRight
   cells-right k hk zero q = refl
   cells-right k hk (suc j) q =
-      (λ t. cells-right k hk j (omega arith) t && eqb (cell (c .seconds) k j) (cellFrom (c .rows) (F + k) j R))
-      ∙ eq-eqb (cell (c .seconds) k j) (cellFrom (c .rows) (F + k) j R)
+      (λ t. cells-right k hk j (omega arith) t && eqb (cell (c .seconds) k j) (cellFrom (c .rows) (F o + k) j (R o)))
+      ∙ eq-eqb (cell (c .seconds) k j) (cellFrom (c .rows) (F o + k) j (R o))
       (agree .seconds-are k hk j (omega arith)
-      ∙ sym (passed R L (c .rows) (agree .rows-are) (F + k) j (omega arith) R (omega arith) (few-fit o L regular (F + k) j)))
+      ∙ sym (passed (R o) L (c .rows) (agree .rows-are) (F o + k) j (omega arith) (R o) (omega arith) (few-fit o L regular (F o + k) j)))
 
-  seconds-right : (m : ℕ) → m ≤ C → secondsRight o c m ≡ true
+  seconds-right : (m : ℕ) → m ≤ C o → secondsRight o c m ≡ true
   unfolding secondsRight
   seconds-right zero q = refl
   seconds-right (suc k) q = λ t. seconds-right k (omega arith) t && cells-right k (omega arith) width (omega arith) t
 
   pub consistent : isConsistent o c ≡ true
   unfolding isConsistent
-  consistent = λ t. rows-inside R (omega arith) t && seconds-right C (omega arith) t
+  consistent = λ t. rows-inside (R o) (omega arith) t && seconds-right (C o) (omega arith) t
 
   pub test-answered : consistencyAnswer o c ≡ accepted true
   unfolding consistencyAnswer

@@ -1,6 +1,7 @@
 pub mod Blocks
 pub mod Merges
 pub mod Rows
+pub mod Window
 pub mod Limits
 pub mod Totals
 pub mod Differences

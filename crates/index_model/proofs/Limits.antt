@@ -31,31 +31,23 @@ use Rattle.index_model.specs.Opening.{
   inWindow,
 }
 use Rattle.index_model.specs.Calls.{fullCount}
+use Rattle.index_model.proofs.Window.{F, C, R}
 
 module _ (o : Opening) where
-  abbrev F : ℕ
-  F = o .«first_second»
-
-  abbrev C : ℕ
-  C = o .«second_count»
-
-  abbrev R : ℕ
-  R = o .«highest_number»
-
-  pub in-window : (s : ℕ) → inWindow o s ≡ true → (o .«first_second» ≤ s) × (s < o .«first_second» + o .«second_count»)
+  pub in-window : (s : ℕ) → inWindow o s ≡ true → (F o ≤ s) × (s < F o + C o)
   unfolding inWindow
   in-window s e = (
-    leb→le F s (left (leb F s) (ltb s (F + C)) (held (inWindow o s) e)),
-    ltb→lt s (F + C)
-        (right (leb F s) (ltb s (F + C)) (held (inWindow o s) e)),
+    leb→le (F o) s (left (leb (F o) s) (ltb s (F o + C o)) (held (inWindow o s) e)),
+    ltb→lt s (F o + C o)
+        (right (leb (F o) s) (ltb s (F o + C o)) (held (inWindow o s) e)),
   )
 
-  pub in-range : (n : ℕ) → isOutside o n ≡ false → (0 < n) × (n ≤ o .«highest_number»)
+  pub in-range : (n : ℕ) → isOutside o n ≡ false → (0 < n) × (n ≤ R o)
   unfolding isOutside
   in-range n e =
-      let t = or-false (eqb n 0) (ltb R n) e in
+      let t = or-false (eqb n 0) (ltb (R o) n) e in
       let z : n ≡ 0 → ⊥ = eqb-false n 0 (t .0) in
-      (omega (arith, z), ltb-false R n (t .1))
+      (omega (arith, z), ltb-false (R o) n (t .1))
 
   pub same-rate : (b : List ℕ) → otherReel o b ≡ false → valueOf sampleRate b ≡ o .«sample_rate_hz»
   unfolding otherReel
@@ -65,12 +57,12 @@ module _ (o : Opening) where
 
   module _ (c : Buffers) where
     -- buffers that 14 does not refuse have the cells
-    pub enough : tooSmall o c ≡ false → (width * o .«highest_number» ≤ length (c .rows))
-        × (width * o .«second_count» ≤ length (c .seconds))
+    pub enough : tooSmall o c ≡ false → (width * R o ≤ length (c .rows))
+        × (width * C o ≤ length (c .seconds))
     unfolding tooSmall
     enough e =
-        let t = or-false (ltb (length (c .rows)) (width * R)) (ltb (length (c .seconds)) (width * C)) e in
-        (ltb-false (length (c .rows)) (width * R) (t .0), ltb-false (length (c .seconds)) (width * C) (t .1))
+        let t = or-false (ltb (length (c .rows)) (width * R o)) (ltb (length (c .seconds)) (width * C o)) e in
+        (ltb-false (length (c .rows)) (width * R o) (t .0), ltb-false (length (c .seconds)) (width * C o) (t .1))
 
     -- what 13 and 14 leave
     pub within-limits : openingRefusal o c ≡ 0 → WithinLimits o c
@@ -78,23 +70,23 @@ module _ (o : Opening) where
     within-limits e =
         let checks = 13 when (limitsWrong o || heldWrong o) ∷ 14 when tooSmall o c ∷ [] in
         let limits = or-false (limitsWrong o) (heldWrong o) (none-applies checks 0 tt e) .0 in
-        let a = or-false (eqb R 0 || ltb highestLimit R || eqb C 0 || ltb daySeconds C) (ltb daySeconds (F + C)) limits in
-        let b = or-false (eqb R 0 || ltb highestLimit R || eqb C 0) (ltb daySeconds C) (a .0) in
-        let c' = or-false (eqb R 0 || ltb highestLimit R) (eqb C 0) (b .0) in
+        let a = or-false (eqb (R o) 0 || ltb highestLimit (R o) || eqb (C o) 0 || ltb daySeconds (C o)) (ltb daySeconds (F o + C o)) limits in
+        let b = or-false (eqb (R o) 0 || ltb highestLimit (R o) || eqb (C o) 0) (ltb daySeconds (C o)) (a .0) in
+        let c' = or-false (eqb (R o) 0 || ltb highestLimit (R o)) (eqb (C o) 0) (b .0) in
         let cells = enough (none-applies checks 1 tt e) in
         record {
-          day = ltb-false daySeconds (F + C) (a .1);
-          numbers = ltb-false highestLimit R (or-false (eqb R 0) (ltb highestLimit R) (c' .0) .1);
+          day = ltb-false daySeconds (F o + C o) (a .1);
+          numbers = ltb-false highestLimit (R o) (or-false (eqb (R o) 0) (ltb highestLimit (R o)) (c' .0) .1);
           rows-long = cells .0;
           seconds-long = cells .1;
         }
 
     -- an opening within its limits is refused by no call whose buffers are long enough
-    pub opening-fine : limitsWrong o || heldWrong o ≡ false → width * o .«highest_number» ≤ length (c .rows)
-        → width * o .«second_count» ≤ length (c .seconds) → openingRefusal o c ≡ 0
+    pub opening-fine : limitsWrong o || heldWrong o ≡ false → width * R o ≤ length (c .rows)
+        → width * C o ≤ length (c .seconds) → openingRefusal o c ≡ 0
     unfolding openingRefusal tooSmall
     opening-fine e p q =
-        λ t. cond (e t) 13 (cond (le-ltb (length (c .rows)) (width * R) p t || le-ltb (length (c .seconds)) (width * C) q t) 14 0)
+        λ t. cond (e t) 13 (cond (le-ltb (length (c .rows)) (width * R o) p t || le-ltb (length (c .seconds)) (width * C o) q t) 14 0)
 
 -- ## L
 

@@ -69,8 +69,7 @@ abbrev pub flag : Bool → ℕ
 flag b = cond b 1 0
 
 -- the samples of each channel that a stretch holds, and the cells of the four channels; the stretch of an accepted record holds
--- as
--- many as its rate says
+-- as many as its rate says
 abbrev pub samplesIn : List ℕ → ℕ
 samplesIn stretch = length stretch / 4
 

@@ -1,5 +1,5 @@
--- What 13 and 14 leave of an opening's value and of the lent buffers. FORMAT, "Refusal numbers". Only the library's own functions
--- cite this.
+-- What 13 and 14 leave of an opening's value and of the lent buffers. FORMAT, "Refusal numbers". Only the library's own
+-- functions cite this.
 use Prim.Native.Nat.{_+_, _*_, _≤_}
 use lib.ListN.{length}
 use Rattle.index_model.specs.declared.Opening.{Opening}

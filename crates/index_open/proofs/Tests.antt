@@ -11,6 +11,7 @@ use Rattle.lists.proofs.Order.{le-or-lt}
 use Rattle.index_model.specs.declared.Opening.{Opening}
 use Rattle.index_model.specs.Cells.{width}
 use Rattle.index_model.specs.Opening.{daySeconds, inWindow, placeOf}
+use Rattle.index_model.proofs.Window.{F, C}
 
 -- two tests that hold in the same cases
 same-test : (a b c d : ℕ) → (a < b → c < d) → (b ≤ a → d ≤ c) → ltb a b ≡ ltb c d
@@ -30,19 +31,13 @@ fewer-cells cells n = same-test (cells / width) n cells (width * n) (λ p. omega
 
 -- a second before the window, and one from its first second on
 module _ (o : Opening) (s : ℕ) where
-  abbrev F : ℕ
-  F = o .«first_second»
-
-  abbrev C : ℕ
-  C = o .«second_count»
-
-  pub before-window : s < F → false ≡ inWindow o s
+  pub before-window : s < F o → false ≡ inWindow o s
   unfolding inWindow
-  before-window h = sym (λ i. lt-leb F s h i && ltb s (F + C))
+  before-window h = sym (λ i. lt-leb (F o) s h i && ltb s (F o + C o))
 
-  pub before-first : s < F → 0 ≡ placeOf o s
+  pub before-first : s < F o → 0 ≡ placeOf o s
   before-first h = omega arith
 
-  pub from-window : F ≤ s → ltb (s - F) C ≡ inWindow o s
+  pub from-window : F o ≤ s → ltb (s - F o) (C o) ≡ inWindow o s
   unfolding inWindow
-  from-window h = same-test (s - F) C s (F + C) (λ p. omega arith) (λ p. omega arith) ∙ sym (λ i. le-leb F s h i && ltb s (F + C))
+  from-window h = same-test (s - F o) (C o) s (F o + C o) (λ p. omega arith) (λ p. omega arith) ∙ sym (λ i. le-leb (F o) s h i && ltb s (F o + C o))

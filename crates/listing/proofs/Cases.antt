@@ -1,6 +1,5 @@
--- The listing in the cases that FORMAT names: an empty input, which gives the header line only; an input that is too long; and a
--- reel
--- of accepted records, each of which has its line. Assumes nothing.
+-- The listing in the cases that FORMAT names: an empty input, which gives the header line only; an input that is too long; and
+-- a reel of accepted records, each of which has its line. Assumes nothing.
 use Prim.Native.Nat.{ℕ, _≤_, _<_}
 use mathlib.Core.Path.{_≡_, ap, _∙_}
 use mathlib.Core.Bool.{Bool, cond}

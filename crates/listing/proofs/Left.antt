@@ -1,6 +1,5 @@
 -- What is left of a walk's text at a place, and what each answer there does to it: a record's line comes first and the rest is
--- left past
--- the record; at the end nothing is left; a refusal's line is the last. Assumes nothing.
+-- left past the record; at the end nothing is left; a refusal's line is the last. Assumes nothing.
 use Prim.Native.Nat.{ℕ, zero, suc, _+_, _*_, _-_, _/_, _<_}
 use mathlib.Core.Path.{_≡_, refl, ap, sym, _∙_}
 use mathlib.Core.Bool.{false}

@@ -9,7 +9,7 @@ use lib.Dec.{eqb, lit<, ltb→lt}
 use lib.IntN.{pos, negℤ, natAbs}
 use lib.ListN.{length}
 use Rattle.fields.specs.Field.{valueOf, decimalFits}
-use Rattle.fields.specs.Table.{readAll}
+use Rattle.fields.specs.Table.{readAll, placeOf}
 use Rattle.fields.proofs.OneField.{value-lt}
 use Rattle.fields.proofs.Tables.{fit-at}
 use Rattle.header.specs.Format.{fields1985}
@@ -36,10 +36,10 @@ rate-size digits power sign = by-test (eqb sign 1)
 
 module _ (b : List ℕ) (e : recordRefusal b ≡ 0) where
   frequency-small : valueOf readback b < 10 ^ 14
-  frequency-small = ltb→lt _ _ (fit-at decimalFits fields1985 (readAll fields1985 b) 26 (values-small b e .0) (lit< tt))
+  frequency-small = ltb→lt _ _ (fit-at decimalFits fields1985 (readAll fields1985 b) (placeOf fields1985 readback) (values-small b e .0) (lit< tt))
 
   digits-small : valueOf frequencyRateDigits b < 10 ^ 5
-  digits-small = ltb→lt _ _ (fit-at decimalFits fields1985 (readAll fields1985 b) 30 (values-small b e .0) (lit< tt))
+  digits-small = ltb→lt _ _ (fit-at decimalFits fields1985 (readAll fields1985 b) (placeOf fields1985 frequencyRateDigits) (values-small b e .0) (lit< tt))
 
   time-small : sampleTime b 0 < 10 ^ 11
   unfolding sampleTime

@@ -1,6 +1,5 @@
--- What the lister writes, and what a call answers that writes text into a lent buffer. FORMAT, "The listing", "Refusal numbers".
--- The
--- lines themselves are in crate `text`, the walk along a reel in crate `reel`.
+-- What the lister writes, and what a call answers that writes text into a lent buffer. FORMAT, "The listing", "Refusal
+-- numbers". The lines themselves are in crate `text`, the walk along a reel in crate `reel`.
 use Prim.Native.Nat.{ℕ, _+_, _*_, _/_}
 use mathlib.Core.Bool.{cond}
 use mathlib.Core.List.{List, [], _∷_, _++_}
@@ -67,9 +66,8 @@ shortestRecord = 2 * 390
 abbrev pub mostRecords : ℕ
 mostRecords = longestInput / shortestRecord
 
--- the longest line of a record: a number of 5 digits, a time of 11 (86,399,999,000), the clock origin, 8 digits before the point
--- of
--- the frequency and 7 before that of the rate: 51 bytes
+-- the longest line of a record: a number of 5 digits, a time of 11 (86,399,999,000), the clock origin, 8 digits before the
+-- point of the frequency and 7 before that of the rate: 51 bytes
 abbrev pub longestLine : ℕ
 longestLine = lineOf 5 11 1 8 7
 

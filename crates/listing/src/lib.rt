@@ -1,6 +1,6 @@
-// The listing of a reel as text in a lent buffer, and the line of one record. FORMAT, "The listing", "Refusal numbers". The walk
-// is by
-// the reel reader, and each record is judged once. The public functions take any bytes and any buffer; a refusal is a number.
+// The listing of a reel as text in a lent buffer, and the line of one record. FORMAT, "The listing", "Refusal numbers". The
+// walk is by the reel reader, and each record is judged once. The public functions take any bytes and any buffer; a refusal is
+// a number.
 ghost use mathlib.Core.Path.{_≡_};
 ghost use lib.ListN.{length};
 ghost use Rattle.text.specs.Placed.{shownText};
@@ -78,8 +78,8 @@ fn write_walk(out: &mut [u8], at: usize, reel: &[u8]) -> usize
 
 // ## Public functions
 
-// The whole listing of the input, from the start of a buffer of the longest listing's length: nothing is refused; 24 is a line of
-// it.
+// The whole listing of the input, from the start of a buffer of the longest listing's length: nothing is refused; 24 is a line
+// of it.
 pub fn list_whole(input: &[u8], out: &mut [u8; LONGEST_LISTING]) -> usize
     ensures { λ r. ⌜ r ≡ length (listing (now (input .entry))) ⌝ }
     ensures { λ _. ⌜ now (out .exit) ≡ textOver (listing (now (input .entry))) (now (out .entry)) ⌝ }

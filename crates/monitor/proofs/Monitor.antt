@@ -7,12 +7,12 @@ use lib.Dec.{eqb}
 use lib.ListN.{length, take, drop}
 use Rattle.bits.specs.Bits.{getBits}
 use Rattle.header.specs.Format.{headerBytes}
-use Rattle.sample_rates.specs.Rates.{mostSamples}
+use Rattle.sample_rates.specs.Rates.{monitorWords, mostSamples}
 use Rattle.record.specs.Record.{recordRefusal}
 use Rattle.record.proofs.Accepted.{record-facts, stretch-inside}
 use Rattle.record.specs.Stretch.{recordRate}
 use Rattle.monitor.specs.declared.SegmentWords.{SegmentWords}
-use Rattle.monitor.specs.Segments.{monitorWords, firstWord, wordCount, segmentAt}
+use Rattle.monitor.specs.Segments.{firstWord, wordCount, segmentAt}
 use Rattle.monitor.specs.Monitor.{lastSampleWordOf, isNew, segmentBytes}
 use Rattle.monitor.specs.Shown.{part}
 

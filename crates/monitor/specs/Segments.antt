@@ -5,6 +5,7 @@ use mathlib.Core.List.{List, [], _∷_}
 use lib.Dec.{eqb, leb, ltb}
 use lib.ListN.{length, getD}
 use Rattle.lists.specs.Tests.{all}
+use Rattle.sample_rates.specs.Rates.{monitorWords}
 use Rattle.monitor.specs.declared.SegmentWords.{SegmentWords}
 
 -- a row: the first and the last word, both counted from 1 after N, and the segment's number
@@ -58,10 +59,6 @@ isNoRow row = eqb row segmentCount
 
 abbrev pub segmentAt : ℕ → SegmentWords
 segmentAt row = getD segments row noSegment
-
--- the monitor words after N
-abbrev pub monitorWords : ℕ
-monitorWords = 150
 
 -- no segment has more words
 abbrev pub mostWords : ℕ

@@ -3,9 +3,9 @@ ghost use mathlib.Core.Path.{_≡_};
 ghost use Prim.Native.Nat.{_+_, _*_, _≤_, _<_};
 ghost use lib.ListN.{length};
 ghost use Rattle.header.specs.Format.{headerBytes};
-ghost use Rattle.sample_rates.specs.Rates.{mostSamples};
+ghost use Rattle.sample_rates.specs.Rates.{monitorWords, mostSamples};
 ghost use Rattle.record.specs.Record.{recordRefusal};
-ghost use Rattle.monitor.specs.Segments.{segmentCount, monitorWords, segmentRow, segmentAt, SoundWords};
+ghost use Rattle.monitor.specs.Segments.{segmentCount, segmentRow, segmentAt, SoundWords};
 ghost use Rattle.monitor.specs.Monitor.{lastSampleWordOf, rowAnswer, segmentAnswer};
 ghost use Rattle.monitor.specs.Shown.{StretchOf, shownPlace, Inside};
 
@@ -53,8 +53,8 @@ fn segment_row(number: u64) -> usize
 {
     let mut row: usize = 0;
     while row < SEGMENT_COUNT {
-        let words = words_of(row);
-        if words.0 == number {
+        let SegmentWords(own, _, _) = words_of(row);
+        if own == number {
             return row;
         }
         row += 1;
@@ -77,9 +77,9 @@ fn stretch_in(bytes: &[u8], row: usize) -> Stretch
     ensures { λ r. ⌜ StretchOf (now (bytes .entry)) row r ⌝ }
 {
     let last_word = last_sample_word(bytes);
-    let words = words_of(row);
-    let start = 2 * (last_word + words.1 - 1);
-    let end = start + 2 * (words.2 + 1 - words.1);
+    let SegmentWords(_, first, last) = words_of(row);
+    let start = 2 * (last_word + first - 1);
+    let end = start + 2 * (last + 1 - first);
     let status_bit = row + 1;
     let new = bits::read_bits(bytes, 16 * last_word + status_bit - 1, 1) == 1;
     Stretch { start, end, new }

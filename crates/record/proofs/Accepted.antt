@@ -11,6 +11,7 @@ use Rattle.fields.specs.Field.{valueOf, decimalFits, binaryFits}
 use Rattle.fields.specs.Table.{readAll, allDigitsGood, allFit}
 use Rattle.fields.proofs.Tables.{values-fit}
 use Rattle.header.specs.Format.{headerBytes, fields1985}
+use Rattle.sample_rates.specs.Rates.{monitorWords}
 use Rattle.checks.specs.Checks.{judgedOf}
 use Rattle.checks.proofs.Accepted.{Accepted, accepted-facts}
 use Rattle.record.specs.Record.{recordRefusal}
@@ -21,8 +22,8 @@ module _ (b : List ℕ) (e : recordRefusal b ≡ 0) where
   unfolding recordRefusal
   record-facts = accepted-facts (judgedOf (length b) (λ f. valueOf f b) (allDigitsGood fields1985 b)) e
 
-  -- the sample stretch and the 150 monitor words after it lie within the record
-  pub stretch-inside : headerBytes + 4 * sampleCount b + 300 ≤ length b
+  -- the sample stretch and the monitor words after it lie within the record
+  pub stretch-inside : headerBytes + 4 * sampleCount b + 2 * monitorWords ≤ length b
   unfolding recordRate
   stretch-inside =
       let f = record-facts in

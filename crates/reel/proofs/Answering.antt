@@ -1,8 +1,6 @@
--- Two walks of MIR, by hand, each once for every answer: a method that takes its reader apart and answers as a function over the
--- reel
--- and the place does; and a function that makes a reader of a reel and a place and answers as a method of it does. All that a
--- walk
--- knows of its callee is the contract. Assumes nothing.
+-- Two walks of MIR, by hand, each once for every answer: a method that takes its reader apart and answers as a function over
+-- the reel and the place does; and a function that makes a reader of a reel and a place and answers as a method of it does. All
+-- that a walk knows of its callee is the contract. Assumes nothing.
 use mathlib.Core.Path.{refl}
 use Prim.Native.Nat.{_<_, _^_}
 use mathlib.Core.List.{[], _∷_}

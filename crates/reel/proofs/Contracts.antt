@@ -86,8 +86,7 @@ module _ (answer : Slot 1) (φ : Promise answer) {M : Type 1} (𝓤 : URA M) whe
     Function = tripleOf 𝓤 H A (function answer .signature) (closing 𝓤 H A (function answer) function-says)
 
     -- at one reader: what each is passed and asks, what is known of its answer (it has no `&mut`, so what its `ensured` says of
-    -- last
-    -- values is dropped), and how it ends with what it still has
+    -- last values is dropped), and how it ends with what it still has
     module _ (W : Given 𝓤 H A) (κ : Lft) (q : Share) (d : Reader) where
       abbrev R : RattleType
       R = answer .row (κ, tt)

@@ -1,6 +1,5 @@
--- What a reader's methods answer, and what they promise: a step, or the bytes of a record; and that the machine value of each is
--- of its
--- type. Assumes nothing.
+-- What a reader's methods answer, and what they promise: a step, or the bytes of a record; and that the machine value of each
+-- is of its type. Assumes nothing.
 use mathlib.Core.Path.{_≡_}
 use mathlib.Core.List.{[], _∷_}
 use lib.Dec.{T as Holds}

@@ -1,7 +1,5 @@
 -- The claims of a walk along any reel from place 0. FORMAT, "The reel": where it finishes, the records handed out, joined, are
--- the
--- reel. `walk` is in specs/Walk, the reader's walk in specs/Reader, what stands at a place in specs/Reel.
--- Assumes nothing.
+-- the reel. `walk` is in specs/Walk, the reader's walk in specs/Reader, what stands at a place in specs/Reel. Assumes nothing.
 use Prim.Native.Nat.{ℕ, _+_, _/_, _≤_}
 use mathlib.Core.Path.{_≡_, refl}
 use mathlib.Core.Bool.{true, false}
@@ -47,8 +45,7 @@ module _ (reel : List ℕ) where
       omega (arith, a .on, a .inside (omega arith))
 
   -- `record_at`, `next_place`, and the reader's `record` and `next`, bear no number: `step_at` and `peek` at the same place do.
-  -- Where
-  -- those give a record, its bytes are accepted, so there are some; at the end and beside a refusal there are none
+  -- Where those give a record, its bytes are accepted, so there are some; at the end and beside a refusal there are none
   pub record-stands : (place : ℕ) → isRecord (stepAt reel place) ≡ true → recordRefusal (recordAt reel place) ≡ 0
   record-stands place e = moved reel place e .good
 

@@ -1,6 +1,5 @@
 // A reel, records back to back, and what stands at a place of it. FORMAT, "The reel". Every public function takes any bytes and
-// any
-// place.
+// any place.
 ghost use mathlib.Core.Path.{_≡_};
 ghost use Prim.Native.Nat.{_<_, _^_};
 ghost use Rattle.reel.specs.Reel.{wordsIn, restRefusal, stepAt, recordAt, nextPlace};

@@ -6,15 +6,15 @@ use mathlib.Core.List.{List, [], _∷_}
 use mathlib.Core.Logic.{_⊎_, inl, inr}
 use native.Mathlib.Numerals.{add-one}
 use lib.Dec.{T, eqb, leb, eqb→eq, leb→le}
-use lib.ListN.{length, getD, drop, drop-of-length-le}
+use lib.ListN.{length, getD, drop}
 use lib.Seq.{drop-cons}
-use borrow.Author.Tests.{eq-eqb, ne-eqb, eqb-true}
+use borrow.Author.Tests.{ne-eqb, eqb-true}
 use Rattle.lists.proofs.Truth.{left, right, each}
 use Rattle.header.specs.Format.{headerBytes}
 use Rattle.sample_rates.specs.declared.SampleRate.{SampleRate}
-use Rattle.sample_rates.specs.Rates.{rates, noRate, lineIn, sampleRateOf, rateHz, recordsPerSecond, samplesPerRecord, lastSampleWord, wordsA, wordsB, mostSamples, secondUs, lineTests, soundLine, soundLines}
+use Rattle.sample_rates.specs.Rates.{rates, noRate, lineIn, sampleRateOf, rateHz, recordsPerSecond, samplesPerRecord, lastSampleWord, wordsA, wordsB, monitorWords, offsetWords, mostSamples, secondUs, lineTests, soundLine, soundLines}
 
--- ## the loop over the lines
+-- ## one line after the other: where a line does not have the rate, the rest of the table is looked at
 
 module _ (ls : List SampleRate) (hz k : ℕ) (h : k < length ls) where
   rest : drop k ls ≡ getD ls k noRate ∷ drop (k + 1) ls
@@ -24,15 +24,8 @@ module _ (ls : List SampleRate) (hz k : ℕ) (h : k < length ls) where
   unfolding lineIn
   step = ap (λ (l : List SampleRate). lineIn l hz) rest
 
-  pub found : getD ls k noRate .hz ≡ hz → lineIn (drop k ls) hz ≡ getD ls k noRate
-  found e = step ∙ ap (λ (t : Bool). cond t (getD ls k noRate) (lineIn (drop (k + 1) ls) hz)) (eq-eqb _ _ e)
-
   pub passed : (getD ls k noRate .hz ≡ hz → ⊥) → lineIn (drop (k + 1) ls) hz ≡ lineIn (drop k ls) hz
   passed e = sym (step ∙ ap (λ (t : Bool). cond t (getD ls k noRate) (lineIn (drop (k + 1) ls) hz)) (ne-eqb _ _ e))
-
-pub none-left : (ls : List SampleRate) (hz k : ℕ) → length ls ≤ k → lineIn (drop k ls) hz ≡ noRate
-unfolding lineIn
-none-left ls hz k h = ap (λ (l : List SampleRate). lineIn l hz) (drop-of-length-le ls {i = k} h)
 
 -- ## the facts of a line
 
@@ -43,8 +36,8 @@ pub record SoundLine (hz : ℕ) (l : SampleRate) : Type 0 where
   pub second : recordsPerSecond l * samplesPerRecord l ≡ rateHz l
   pub even : secondUs % rateHz l ≡ 0
   pub last : 2 * lastSampleWord l ≡ headerBytes + 4 * samplesPerRecord l
-  pub shorter : wordsA l ≡ lastSampleWord l + 150
-  pub longer : wordsB l ≡ lastSampleWord l + 155
+  pub shorter : wordsA l ≡ lastSampleWord l + monitorWords
+  pub longer : wordsB l ≡ lastSampleWord l + (monitorWords + offsetWords)
   pub some : 1 ≤ samplesPerRecord l
   pub most : samplesPerRecord l ≤ mostSamples
 

@@ -65,20 +65,27 @@ secondUs = 1000000
 abbrev pub intervalUs : SampleRate → ℕ
 intervalUs l = cond (isNoRate l) 0 (secondUs / rateHz l)
 
+-- the monitor words after the samples, and the words of operator offsets after those in OP-B
+abbrev pub monitorWords : ℕ
+monitorWords = 150
+
+abbrev pub offsetWords : ℕ
+offsetWords = 5
+
 -- no record has more samples of a channel
 abbrev pub mostSamples : ℕ
 mostSamples = 1000
 
 -- the one test of a line: L records of its samples make a second of the rate, a million divides evenly, the header and four
--- bytes a sample end at word N, 150 monitor words follow, and in OP-B five words more
+-- bytes a sample end at word N, the monitor words follow, and in OP-B the operator offsets
 abbrev pub lineTests : SampleRate → List Bool
 lineTests l =
     leb 1 (rateHz l) ∷
     eqb (recordsPerSecond l * samplesPerRecord l) (rateHz l) ∷
     eqb (secondUs % rateHz l) 0 ∷
     eqb (2 * lastSampleWord l) (headerBytes + 4 * samplesPerRecord l) ∷
-    eqb (wordsA l) (lastSampleWord l + 150) ∷
-    eqb (wordsB l) (lastSampleWord l + 155) ∷
+    eqb (wordsA l) (lastSampleWord l + monitorWords) ∷
+    eqb (wordsB l) (lastSampleWord l + (monitorWords + offsetWords)) ∷
     leb 1 (samplesPerRecord l) ∷
     leb (samplesPerRecord l) mostSamples ∷
     []

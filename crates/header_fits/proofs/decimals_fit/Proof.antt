@@ -1,8 +1,6 @@
 -- Only the three decimal fields are judged: of every other row the test computes to true.
 use mathlib.Core.Path.{ap, sym, _∙_}
-use mathlib.Core.Bool.{Bool, _&&_}
-use lib.Dec.{ltb}
-use lib.ListN.{getD}
+use mathlib.Core.Bool.{_&&_}
 use borrow.Author.Needs.{needs}
 use Rattle.lists.proofs.Truth.{and-true}
 use Rattle.fields.specs.Field.{decimalFits}
@@ -14,10 +12,17 @@ use Rattle.header_fits.proofs.decimals_fit.Tie as tie
 
 returns : tie.Need-returns
 returns c =
-    let v = c .args .t1 in
-    ap (λ (t : Bool). ltb (getD v 26 0) 100000000000000 && (ltb (getD v 28 0) 100000000000000 && t))
-    (sym (and-true (ltb (getD v 30 0) 100000)))
-    ∙ ap (allFit decimalFits fields1985) (whole fieldCount v (search needs))
+    let calculated = c .before in
+    let readback = calculated .before in
+    let start = readback .before in
+    (λ i.
+    readback .decimal-fits .ensures i
+    && (calculated .decimal-fits2 .ensures i && (c .decimal-fits3 .ensures ∙ sym (and-true _)) i))
+    ∙ ap (allFit decimalFits fields1985) (whole fieldCount (start .args .t1) (search (needs, start .good)))
 
 pub decimals-fit-spec : {M : Type 1} → statement M
-decimals-fit-spec = tie.close (tie.spec (λ c. search needs) (λ c. search needs) (λ c. search needs) returns)
+decimals-fit-spec =
+    tie.close
+    (tie.spec
+    (λ c. search needs) (λ c κs. search needs) (λ c. search needs) (λ c κs. search needs) (λ c. search needs) (λ c κs. search needs)
+    returns)

@@ -20,7 +20,7 @@ loop-holds c = search needs
 
 returns : tie.Need-returns Inv-loop μ-loop
 returns c =
-    let w = c .before .before in
+    let w = c .before in
     let l = w .before .before in
     let e =
     found segments (l .before .args .number) (l .loop .row) (search needs) (ap segmentNumber (sym (w .words-of .ensures .0)) ∙ c .if1 .taken) in
@@ -28,7 +28,7 @@ returns c =
 
 loop-again : tie.Need-loop-again Inv-loop μ-loop
 loop-again c =
-    let w = c .before .before in
+    let w = c .before in
     let l = w .before .before in
     let e =
     passed segments (l .before .args .number) (l .loop .row) (search needs)

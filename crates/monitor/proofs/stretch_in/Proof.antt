@@ -9,7 +9,7 @@ use Rattle.monitor.proofs.stretch_in.Tie as tie
 
 returns : tie.Need-returns
 returns c =
-    let w = c .before .before .before .before in
+    let w = c .before in
     let n = w .before in
     let a = n .before .before .args in
     let b = now (a .bytes) in

@@ -1,6 +1,5 @@
--- A walk of the MIR, by hand: the reader is taken apart, `next_place` is called on the reel and the place, and the reader is made
--- anew
--- at the place that comes back. Assumes nothing.
+-- A walk of the MIR, by hand: the reader is taken apart, `next_place` is called on the reel and the place, and the reader is
+-- made anew at the place that comes back. Assumes nothing.
 use mathlib.Core.Path.{_≡_, refl, ap, _∙_}
 use Prim.Native.Nat.{ℕ, _<_, _^_}
 use mathlib.Core.List.{[], _∷_}
