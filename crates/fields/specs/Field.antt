@@ -109,7 +109,7 @@ writeValue f v b = cond (readable f) (withValue f v b) b
 abbrev pub goodDigits : Field → List ℕ → Bool
 goodDigits f b = not (readable f) || digitsGood f b
 
-abbrev pub fitsBinary : Field → ℕ → Bool
+unfoldable pub fitsBinary : Field → ℕ → Bool
 fitsBinary f v = not (readable f) || binaryFits f v
 
 abbrev pub fitsDecimal : Field → ℕ → Bool

@@ -1,6 +1,7 @@
 // One field of a header, read and written as its row of the format's table says. FORMAT, "The record".
 // A field that no format has, such as one of word 0 or of 60 bits, reads as 0 and is not written.
 ghost use mathlib.Core.Path.{_≡_};
+ghost use mathlib.Core.Bool.{_&&_};
 ghost use Rattle.fields.specs.Field.{start, encoded, valueOf, withValue, digitsGood, Readable, readable, readValue, writeValue, goodDigits, fitsBinary, fitsDecimal};
 
 // A field: its word and first bit, both counted from 1, its width in bits, and whether it holds decimal digits.
@@ -103,14 +104,14 @@ pub fn write_field(bytes: &mut [u8], f: Field, value: u64)
     }
 }
 
-// Whether a value has no more bits than the field, if that is binary.
-pub fn binary_fits(f: Field, value: u64) -> bool
-    ensures { λ r. ⌜ r ≡ fitsBinary f value ⌝ }
+// Whether a value has no more bits than the field, if that is binary, and the rest fits too.
+pub fn binary_fits(f: Field, value: u64, rest: bool) -> bool
+    ensures { λ r. ⌜ r ≡ (fitsBinary f value && rest) ⌝ }
 {
     let Field(_, _, width, decimal) = f;
     let fits = bits::bits_fit(width, value);
     let no_field = !is_readable(f);
-    no_field | (decimal | fits)
+    (no_field | (decimal | fits)) & rest
 }
 
 // Whether a value has no more digits than the field, if that is decimal.

@@ -3,8 +3,8 @@
 ghost use mathlib.Core.Path.{_≡_};
 ghost use Rattle.fields.specs.Field.{binaryFits, decimalFits};
 ghost use Rattle.fields.specs.Table.{allFit};
-ghost use Rattle.header.specs.Format.{fields1985};
-use fields::Field;
+ghost use Rattle.header_parts.specs.Parts.{rowsFit};
+ghost use Rattle.header.specs.Format.{common1, common2, common3, common4, common5, own1985, fields1985};
 use header::FIELD_COUNT;
 
 // Whether every decimal value has no more digits than its field.
@@ -20,83 +20,91 @@ pub fn decimals_fit(values: [u64; FIELD_COUNT]) -> bool
     readback & (calculated & rate)
 }
 
-// The rows of each part; past the end of the table stands no field, which anything fits.
-const NO_FIELD: Field = Field(0, 0, 0, false);
+// Whether the values of each part have no more bits than their rows' fields, if those are binary, and the rest fits too.
+fn fit_common_1(values: [u64; FIELD_COUNT], rest: bool) -> bool
+    ensures { λ r. ⌜ r ≡ rowsFit common1 0 values rest ⌝ }
+{
+    let from_7 = fields::binary_fits(header::LENGTH_WORDS, values[7], rest);
+    let from_6 = fields::binary_fits(header::RECORD_NUMBER, values[6], from_7);
+    let from_5 = fields::binary_fits(header::TAPE_NUMBER, values[5], from_6);
+    let from_4 = fields::binary_fits(header::COMPRESSION, values[4], from_5);
+    let from_3 = fields::binary_fits(header::CONVERSION, values[3], from_4);
+    let from_2 = fields::binary_fits(header::COPY_ERROR, values[2], from_3);
+    let from_1 = fields::binary_fits(header::SESSION_START, values[1], from_2);
+    fields::binary_fits(header::CLOCK_ORIGIN, values[0], from_1)
+}
 
-const COMMON_1: [Field; 8] = [
-    header::CLOCK_ORIGIN,
-    header::SESSION_START,
-    header::COPY_ERROR,
-    header::CONVERSION,
-    header::COMPRESSION,
-    header::TAPE_NUMBER,
-    header::RECORD_NUMBER,
-    header::LENGTH_WORDS,
-];
+fn fit_common_2(values: [u64; FIELD_COUNT], rest: bool) -> bool
+    ensures { λ r. ⌜ r ≡ rowsFit common2 8 values rest ⌝ }
+{
+    let from_7 = fields::binary_fits(header::PREDICT_0, values[15], rest);
+    let from_6 = fields::binary_fits(header::TIME_TAG, values[14], from_7);
+    let from_5 = fields::binary_fits(header::DAY, values[13], from_6);
+    let from_4 = fields::binary_fits(header::YEAR, values[12], from_5);
+    let from_3 = fields::binary_fits(header::SPC, values[11], from_4);
+    let from_2 = fields::binary_fits(header::SPACECRAFT, values[10], from_3);
+    let from_1 = fields::binary_fits(header::SECONDARY_FEA, values[9], from_2);
+    fields::binary_fits(header::PRIME_FEA, values[8], from_1)
+}
 
-const COMMON_2: [Field; 8] = [
-    header::PRIME_FEA,
-    header::SECONDARY_FEA,
-    header::SPACECRAFT,
-    header::SPC,
-    header::YEAR,
-    header::DAY,
-    header::TIME_TAG,
-    header::PREDICT_0,
-];
+fn fit_common_3(values: [u64; FIELD_COUNT], rest: bool) -> bool
+    ensures { λ r. ⌜ r ≡ rowsFit common3 16 values rest ⌝ }
+{
+    let from_7 = fields::binary_fits(header::PREDICT_8, values[23], rest);
+    let from_6 = fields::binary_fits(header::PREDICT_7, values[22], from_7);
+    let from_5 = fields::binary_fits(header::PREDICT_6, values[21], from_6);
+    let from_4 = fields::binary_fits(header::PREDICT_5, values[20], from_5);
+    let from_3 = fields::binary_fits(header::PREDICT_4, values[19], from_4);
+    let from_2 = fields::binary_fits(header::PREDICT_3, values[18], from_3);
+    let from_1 = fields::binary_fits(header::PREDICT_2, values[17], from_2);
+    fields::binary_fits(header::PREDICT_1, values[16], from_1)
+}
 
-const COMMON_3: [Field; 8] = [
-    header::PREDICT_1,
-    header::PREDICT_2,
-    header::PREDICT_3,
-    header::PREDICT_4,
-    header::PREDICT_5,
-    header::PREDICT_6,
-    header::PREDICT_7,
-    header::PREDICT_8,
-];
+fn fit_common_4(values: [u64; FIELD_COUNT], rest: bool) -> bool
+    ensures { λ r. ⌜ r ≡ rowsFit common4 24 values rest ⌝ }
+{
+    let from_7 = fields::binary_fits(header::FREQUENCY_RATE_POWER, values[31], rest);
+    let from_6 = fields::binary_fits(header::FREQUENCY_RATE_DIGITS, values[30], from_7);
+    let from_5 = fields::binary_fits(header::UPDATE_TAG, values[29], from_6);
+    let from_4 = fields::binary_fits(header::CALCULATED, values[28], from_5);
+    let from_3 = fields::binary_fits(header::READBACK_TAG, values[27], from_4);
+    let from_2 = fields::binary_fits(header::READBACK, values[26], from_3);
+    let from_1 = fields::binary_fits(header::STATUS, values[25], from_2);
+    fields::binary_fits(header::PREDICT_9, values[24], from_1)
+}
 
-const COMMON_4: [Field; 8] = [
-    header::PREDICT_9,
-    header::STATUS,
-    header::READBACK,
-    header::READBACK_TAG,
-    header::CALCULATED,
-    header::UPDATE_TAG,
-    header::FREQUENCY_RATE_DIGITS,
-    header::FREQUENCY_RATE_POWER,
-];
+fn fit_common_5(values: [u64; FIELD_COUNT], rest: bool) -> bool
+    ensures { λ r. ⌜ r ≡ rowsFit common5 32 values rest ⌝ }
+{
+    let from_7 = fields::binary_fits(header::COUNTER_TAG, values[39], rest);
+    let from_6 = fields::binary_fits(header::SELECTOR_4, values[38], from_7);
+    let from_5 = fields::binary_fits(header::SELECTOR_3, values[37], from_6);
+    let from_4 = fields::binary_fits(header::SELECTOR_2, values[36], from_5);
+    let from_3 = fields::binary_fits(header::SELECTOR_1, values[35], from_4);
+    let from_2 = fields::binary_fits(header::PHASE_2, values[34], from_3);
+    let from_1 = fields::binary_fits(header::PHASE_1, values[33], from_2);
+    fields::binary_fits(header::FREQUENCY_RATE_SIGN, values[32], from_1)
+}
 
-const COMMON_5: [Field; 8] = [
-    header::FREQUENCY_RATE_SIGN,
-    header::PHASE_1,
-    header::PHASE_2,
-    header::SELECTOR_1,
-    header::SELECTOR_2,
-    header::SELECTOR_3,
-    header::SELECTOR_4,
-    header::COUNTER_TAG,
-];
-
-const OWN_1985: [Field; 8] = [
-    header::FILTER,
-    header::SAMPLE_RATE,
-    header::SYNC,
-    header::WORD_39,
-    header::REGISTER_1,
-    header::REGISTER_2,
-    NO_FIELD,
-    NO_FIELD,
-];
+fn fit_own_1985(values: [u64; FIELD_COUNT], rest: bool) -> bool
+    ensures { λ r. ⌜ r ≡ rowsFit own1985 40 values rest ⌝ }
+{
+    let from_5 = fields::binary_fits(header::REGISTER_2, values[45], rest);
+    let from_4 = fields::binary_fits(header::REGISTER_1, values[44], from_5);
+    let from_3 = fields::binary_fits(header::WORD_39, values[43], from_4);
+    let from_2 = fields::binary_fits(header::SYNC, values[42], from_3);
+    let from_1 = fields::binary_fits(header::SAMPLE_RATE, values[41], from_2);
+    fields::binary_fits(header::FILTER, values[40], from_1)
+}
 
 // Whether every binary value has no more bits than its field.
 pub fn binaries_fit(values: [u64; FIELD_COUNT]) -> bool
     ensures { λ r. ⌜ r ≡ allFit binaryFits fields1985 values ⌝ }
 {
-    let own = header_parts::binaries_fit(OWN_1985, &values, 40, true);
-    let from_5 = header_parts::binaries_fit(COMMON_5, &values, 32, own);
-    let from_4 = header_parts::binaries_fit(COMMON_4, &values, 24, from_5);
-    let from_3 = header_parts::binaries_fit(COMMON_3, &values, 16, from_4);
-    let from_2 = header_parts::binaries_fit(COMMON_2, &values, 8, from_3);
-    header_parts::binaries_fit(COMMON_1, &values, 0, from_2)
+    let own = fit_own_1985(values, true);
+    let from_5 = fit_common_5(values, own);
+    let from_4 = fit_common_4(values, from_5);
+    let from_3 = fit_common_3(values, from_4);
+    let from_2 = fit_common_2(values, from_3);
+    fit_common_1(values, from_2)
 }

@@ -5,7 +5,7 @@ use mathlib.Core.Bool.{Bool, _&&_}
 use mathlib.Core.List.{List, [], _∷_}
 use lib.ListN.{getD, set}
 use Rattle.fields.specs.declared.Field.{Field}
-use Rattle.fields.specs.Field.{none, valueOf, fitsBinary}
+use Rattle.fields.specs.Field.{valueOf, fitsBinary}
 
 -- the n values of v from place k on
 abbrev pub cells : ℕ → ℕ → List ℕ → List ℕ
@@ -22,7 +22,7 @@ abbrev pub placed : ℕ → ℕ → ℕ → List ℕ → List ℕ → List ℕ
 placed k zero at p v = v
 placed k (suc n) at p v = placed (suc k) n at p (set v (at + k) (getD p k 0))
 
--- the values of v from place `at` on fit n rows of t from the k-th on, if those are binary, and the rest fits
-abbrev pub rowsFit : ℕ → ℕ → List Field → ℕ → List ℕ → Bool → Bool
-rowsFit k zero t at v rest = rest
-rowsFit k (suc n) t at v rest = fitsBinary (getD t k none) (getD v (at + k) 0) && rowsFit (suc k) n t at v rest
+-- the values of v from place `at` on fit the rows, if those are binary, and the rest fits
+abbrev pub rowsFit : List Field → ℕ → List ℕ → Bool → Bool
+rowsFit [] at v rest = rest
+rowsFit (f ∷ fs) at v rest = fitsBinary f (getD v at 0) && rowsFit fs (suc at) v rest
