@@ -229,17 +229,24 @@ fn read_own_1985(bytes: &[u8]) -> [u64; 8]
     ]
 }
 
+// The values of the fields go into the array lent, in the table's order.
+pub fn read_into(bytes: &[u8], values: &mut [u64; FIELD_COUNT])
+    ensures { λ _. ⌜ now (values .exit) ≡ readAll fields1985 (now (bytes .entry)) ⌝ }
+{
+    header_parts::place(values, 0, read_common_1(bytes));
+    header_parts::place(values, 8, read_common_2(bytes));
+    header_parts::place(values, 16, read_common_3(bytes));
+    header_parts::place(values, 24, read_common_4(bytes));
+    header_parts::place(values, 32, read_common_5(bytes));
+    header_parts::place(values, 40, read_own_1985(bytes));
+}
+
 // The values of the fields, in the table's order.
 pub fn read_values(bytes: &[u8]) -> [u64; FIELD_COUNT]
     ensures { λ r. ⌜ r ≡ readAll fields1985 (now (bytes .entry)) ⌝ }
 {
     let mut values = [0u64; FIELD_COUNT];
-    header_parts::place(&mut values, 0, read_common_1(bytes));
-    header_parts::place(&mut values, 8, read_common_2(bytes));
-    header_parts::place(&mut values, 16, read_common_3(bytes));
-    header_parts::place(&mut values, 24, read_common_4(bytes));
-    header_parts::place(&mut values, 32, read_common_5(bytes));
-    header_parts::place(&mut values, 40, read_own_1985(bytes));
+    read_into(bytes, &mut values);
     values
 }
 

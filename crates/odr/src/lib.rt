@@ -63,7 +63,7 @@ pub extern "C" fn odr_sample_rate(hz: u64) -> RateLineAnswer
     sample_rates::rate_line(hz)
 }
 
-// The values of a record's header, into the array lent. They go there as they are read: an answer by value would copy them again.
+// The values of a record's header, into the array lent. They go there as they are read: an answer by value would copy them.
 #[no_mangle]
 pub extern "C" fn odr_read_header(bytes: &[u8], values: &mut [u64; FIELD_COUNT]) -> u8
     ensures { λ r. ⌜ r ≡ headerAnswer (now (bytes .entry)) .number ⌝ }
@@ -73,7 +73,7 @@ pub extern "C" fn odr_read_header(bytes: &[u8], values: &mut [u64; FIELD_COUNT])
     if refusal != 0 {
         return refusal;
     }
-    *values = header::read_values(bytes);
+    header::read_into(bytes, values);
     0
 }
 

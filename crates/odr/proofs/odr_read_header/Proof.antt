@@ -24,11 +24,12 @@ returns c =
 returns-2 : tie.Need-returns-2
 unfolding headerAnswer
 returns-2 c =
-    let judged = c .before .before in
+    let passed = c .before .before in
+    let judged = passed .before in
     let a = judged .before .before .args in
     let b = now (a .bytes) in
-    let none = sym (judged .refusal-of .ensures) ∙ c .before .if1 .left in
-    let p = ap accepted (c .read-values .ensures) ∙ unless-none (recordRefusal b) noValues (readAll fields1985 b) none in
+    let none = sym (judged .refusal-of .ensures) ∙ passed .if1 .left in
+    let p = ap accepted (c .read-into .ensures) ∙ unless-none (recordRefusal b) noValues (readAll fields1985 b) none in
     (ap (λ (x : Answer (List ℕ)). x .number) p, ap (valueOr (a .values .now)) p)
 
 pub odr-read-header-spec : {M : Type 1} → statement M
