@@ -131,7 +131,7 @@ pub fn write_bits(bytes: &mut [u8], start: usize, width: usize, value: u64)
 }
 
 // Whether a number has no more bits than `width`.
-pub fn bits_fit(width: usize, value: u64) -> bool
+pub fn fits_bits(width: usize, value: u64) -> bool
     ensures { λ r. ⌜ r ≡ ltb value (2 ^ width) ⌝ }
 {
     if width < 64 {
@@ -202,7 +202,7 @@ pub fn decimal_code(count: usize, value: u64) -> u64
 }
 
 // Whether a number has no more decimal digits than `count`.
-pub fn decimal_fits(count: usize, value: u64) -> bool
+pub fn fits_digits(count: usize, value: u64) -> bool
     ensures { λ r. ⌜ r ≡ ltb value (10 ^ count) ⌝ }
 {
     let mut rest = value;

@@ -8,40 +8,40 @@ use native.Mathlib.Omega.{arith}
 use Rattle.bits.specs.Bits.{getBits, setBits, widest}
 use Rattle.bits.specs.Decimal.{decimalValue, digits, coded, mostDigits}
 use Rattle.fields.specs.declared.Field.{Field}
-use Rattle.fields.specs.Field.{start, width, isDecimal, digitCount, encoded, valueOf, withValue, digitsGood, Readable}
+use Rattle.fields.specs.Field.{start, bitWidth, isDecimal, digitCount, encoded, valueOf, withValue, digitsGood, Readable}
 
 -- a readable field is no wider than the widest, and has no more than the most digits
 module _ (f : Field) (r : Readable f) where
-  width-whole : min (width f) widest ≡ width f
+  width-whole : min (bitWidth f) widest ≡ bitWidth f
   width-whole = min-eq-left (r .narrow)
 
   count-whole : min (digitCount f) mostDigits ≡ digitCount f
   count-whole = min-eq-left (let h : digitCount f ≤ 14 = omega (arith, r .narrow) in h)
 
-module _ (f : Field) (r : Readable f) (b : List ℕ) (s x : ℕ) (at : s ≡ start f) (got : x ≡ getBits s (min (width f) widest) b) where
-  code : x ≡ getBits (start f) (width f) b
+module _ (f : Field) (r : Readable f) (b : List ℕ) (s x : ℕ) (at : s ≡ start f) (got : x ≡ getBits s (min (bitWidth f) widest) b) where
+  code : x ≡ getBits (start f) (bitWidth f) b
   code = got ∙ (λ i. getBits (at i) (width-whole f r i) b)
 
   pub read-decimal : isDecimal f ≡ true → decimalValue (min (digitCount f) mostDigits) x ≡ valueOf f b
   unfolding valueOf
   read-decimal e =
-      let c : ℕ = getBits (start f) (width f) b in
+      let c : ℕ = getBits (start f) (bitWidth f) b in
       (λ i. decimalValue (count-whole f r i) (code i)) ∙ sym (ap (λ (t : Bool). cond t (decimalValue (digitCount f) c) c) e)
 
   pub read-binary : isDecimal f ≡ false → x ≡ valueOf f b
   unfolding valueOf
   read-binary e =
-      let c : ℕ = getBits (start f) (width f) b in
+      let c : ℕ = getBits (start f) (bitWidth f) b in
       code ∙ sym (ap (λ (t : Bool). cond t (decimalValue (digitCount f) c) c) e)
 
   pub digits-decimal : isDecimal f ≡ true → digits (min (digitCount f) mostDigits) x ≡ digitsGood f b
   unfolding digitsGood
   digits-decimal e =
-      (λ i. digits (count-whole f r i) (code i)) ∙ sym (ap (λ (t : Bool). not t || digits (digitCount f) (getBits (start f) (width f) b)) e)
+      (λ i. digits (count-whole f r i) (code i)) ∙ sym (ap (λ (t : Bool). not t || digits (digitCount f) (getBits (start f) (bitWidth f) b)) e)
 
 pub digits-binary : (f : Field) (b : List ℕ) → isDecimal f ≡ false → true ≡ digitsGood f b
 unfolding digitsGood
-digits-binary f b e = sym (ap (λ (t : Bool). not t || digits (digitCount f) (getBits (start f) (width f) b)) e)
+digits-binary f b e = sym (ap (λ (t : Bool). not t || digits (digitCount f) (getBits (start f) (bitWidth f) b)) e)
 
 -- the code of a value, by whether the field is decimal
 pub code-decimal : (f : Field) → Readable f → (v : ℕ) → isDecimal f ≡ true → coded (min (digitCount f) mostDigits) v ≡ encoded f v
@@ -52,6 +52,6 @@ code-binary f v e = sym (ap (λ (t : Bool). cond t (coded (digitCount f) v) v) e
 
 -- what is written
 pub written : (f : Field) → Readable f → (v s x : ℕ) (b : List ℕ) → s ≡ start f → x ≡ encoded f v
-    → setBits s (min (width f) widest) x b ≡ withValue f v b
+    → setBits s (min (bitWidth f) widest) x b ≡ withValue f v b
 unfolding withValue
 written f r v s x b at e = λ i. setBits (at i) (width-whole f r i) (e i) b

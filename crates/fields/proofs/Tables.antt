@@ -12,14 +12,14 @@ use lib.ListN.{length, getD}
 use Rattle.lists.proofs.Truth.{left, right, both, either}
 use Rattle.bits.specs.Bits.{bitAt}
 use Rattle.fields.specs.declared.Field.{Field}
-use Rattle.fields.specs.Field.{none, start, width, valueOf, withValue, digitsGood, decimalFits, binaryFits, readable, wholeDigits}
+use Rattle.fields.specs.Field.{none, start, bitWidth, valueOf, withValue, digitsGood, decimalFits, binaryFits, readable, wholeDigits}
 use Rattle.fields.specs.Table.{readAll, writeAll, allDigitsGood, allFit, apart, allApart, sound, unnamed}
 use Rattle.fields.proofs.OneField.{length-with, value-with, value-other, with-value, read-fits, digits-with, digits-other, bit-other}
 
 -- ## the test, taken apart
 
 module _ (n : ℕ) (f : Field) (fs : List Field) (t : T (sound n (f ∷ fs))) where
-  within : T (leb (start f + width f) n && (allApart f fs && sound n fs))
+  within : T (leb (start f + bitWidth f) n && (allApart f fs && sound n fs))
   within = right (readable f && wholeDigits f) _ t
 
   pub sound-readable : T (readable f)
@@ -28,27 +28,27 @@ module _ (n : ℕ) (f : Field) (fs : List Field) (t : T (sound n (f ∷ fs))) wh
   pub sound-digits : T (wholeDigits f)
   sound-digits = right (readable f) (wholeDigits f) (left (readable f && wholeDigits f) _ t)
 
-  pub sound-inside : start f + width f ≤ n
-  sound-inside = leb→le (start f + width f) n (left (leb (start f + width f) n) _ within)
+  pub sound-inside : start f + bitWidth f ≤ n
+  sound-inside = leb→le (start f + bitWidth f) n (left (leb (start f + bitWidth f) n) _ within)
 
   pub sound-apart : T (allApart f fs)
-  sound-apart = left (allApart f fs) _ (right (leb (start f + width f) n) _ within)
+  sound-apart = left (allApart f fs) _ (right (leb (start f + bitWidth f) n) _ within)
 
   pub sound-rest : T (sound n fs)
-  sound-rest = right (allApart f fs) _ (right (leb (start f + width f) n) _ within)
+  sound-rest = right (allApart f fs) _ (right (leb (start f + bitWidth f) n) _ within)
 
-apart-cases : (f g : Field) → T (apart f g) → (start f + width f ≤ start g) ⊎ (start g + width g ≤ start f)
+apart-cases : (f g : Field) → T (apart f g) → (start f + bitWidth f ≤ start g) ⊎ (start g + bitWidth g ≤ start f)
 apart-cases f g t =
-    ⊎-elim (λ p. inl (leb→le (start f + width f) (start g) p)) (λ p. inr (leb→le (start g + width g) (start f) p))
-    (either (leb (start f + width f) (start g)) (leb (start g + width g) (start f)) t)
+    ⊎-elim (λ p. inl (leb→le (start f + bitWidth f) (start g) p)) (λ p. inr (leb→le (start g + bitWidth g) (start f) p))
+    (either (leb (start f + bitWidth f) (start g)) (leb (start g + bitWidth g) (start f)) t)
 
 -- a longer run of bytes holds the table too
 pub sound-more : (m n : ℕ) (fs : List Field) → m ≤ n → T (sound m fs) → T (sound n fs)
 sound-more m n [] h t = tt
 sound-more m n (f ∷ fs) h t =
-    let e : start f + width f ≤ m = sound-inside m f fs t in
+    let e : start f + bitWidth f ≤ m = sound-inside m f fs t in
     both (readable f && wholeDigits f) _ (left (readable f && wholeDigits f) _ t)
-    (both (leb (start f + width f) n) _ (le→leb (start f + width f) n (omega arith))
+    (both (leb (start f + bitWidth f) n) _ (le→leb (start f + bitWidth f) n (omega arith))
     (both (allApart f fs) (sound n fs) (sound-apart m f fs t) (sound-more m n fs h (sound-rest m f fs t))))
 
 -- ## rows by their place

@@ -34,22 +34,22 @@ wordOf f = f .0
 abbrev pub bitOf : Field → ℕ
 bitOf f = f .1
 
-abbrev pub width : Field → ℕ
-width f = f .2
+abbrev pub bitWidth : Field → ℕ
+bitWidth f = f .2
 
 abbrev pub isDecimal : Field → Bool
 isDecimal f = f .3
 
 -- the same bits, as decimal digits of four bits each
 abbrev pub bcd : Field → Field
-bcd f = record { 0 = wordOf f; 1 = bitOf f; 2 = width f; 3 = true }
+bcd f = record { 0 = wordOf f; 1 = bitOf f; 2 = bitWidth f; 3 = true }
 
 -- the first bit, counted from 0 through the whole header, and the number of decimal digits
 abbrev pub start : Field → ℕ
 start f = 16 * (wordOf f - 1) + (bitOf f - 1)
 
 abbrev pub digitCount : Field → ℕ
-digitCount f = width f / 4
+digitCount f = bitWidth f / 4
 
 -- the value that a code, a field's bits as a number, stands for; and the code of a value
 abbrev pub decoded : Field → ℕ → ℕ
@@ -60,22 +60,22 @@ encoded f value = cond (isDecimal f) (coded (digitCount f) value) value
 
 -- what the field holds in the bytes b
 unfoldable pub valueOf : Field → List ℕ → ℕ
-valueOf f b = decoded f (getBits (start f) (width f) b)
+valueOf f b = decoded f (getBits (start f) (bitWidth f) b)
 
 -- the bytes b with the value put into the field
 unfoldable pub withValue : Field → ℕ → List ℕ → List ℕ
-withValue f v b = setBits (start f) (width f) (encoded f v) b
+withValue f v b = setBits (start f) (bitWidth f) (encoded f v) b
 
 -- each digit of a decimal field is at most 9; a binary field has no digits to judge
 unfoldable pub digitsGood : Field → List ℕ → Bool
-digitsGood f b = not (isDecimal f) || digits (digitCount f) (getBits (start f) (width f) b)
+digitsGood f b = not (isDecimal f) || digits (digitCount f) (getBits (start f) (bitWidth f) b)
 
 -- a value has no more digits than a decimal field, or no more bits than a binary one
 abbrev pub decimalFits : Field → ℕ → Bool
 decimalFits f v = not (isDecimal f) || ltb v (10 ^ digitCount f)
 
 abbrev pub binaryFits : Field → ℕ → Bool
-binaryFits f v = isDecimal f || ltb v (2 ^ width f)
+binaryFits f v = isDecimal f || ltb v (2 ^ bitWidth f)
 
 -- the last word that a field can start in: more than any record has
 abbrev pub lastReadableWord : ℕ
@@ -87,17 +87,17 @@ pub record Readable (f : Field) : Type 0 where
   pub last : wordOf f ≤ lastReadableWord
   pub high : 1 ≤ bitOf f
   pub low : bitOf f ≤ 16
-  pub narrow : width f ≤ widest
+  pub narrow : bitWidth f ≤ widest
 
 -- the same as a test
 abbrev pub readable : Field → Bool
 readable f =
     (leb 1 (wordOf f) && leb (wordOf f) lastReadableWord)
-    && ((leb 1 (bitOf f) && leb (bitOf f) 16) && leb (width f) widest)
+    && ((leb 1 (bitOf f) && leb (bitOf f) 16) && leb (bitWidth f) widest)
 
 -- a decimal field has whole digits
 abbrev pub wholeDigits : Field → Bool
-wholeDigits f = not (isDecimal f) || eqb (width f % 4) 0
+wholeDigits f = not (isDecimal f) || eqb (bitWidth f % 4) 0
 
 -- what the code reads, writes and judges: of a field that is not readable 0, nothing, no digit and no value
 abbrev pub readValue : Field → List ℕ → ℕ

@@ -6,7 +6,7 @@ use mathlib.Core.Logic.{_⊎_}
 use lib.Dec.{leb, eqb}
 use lib.ListN.{getD}
 use Rattle.fields.specs.declared.Field.{Field}
-use Rattle.fields.specs.Field.{start, width, valueOf, withValue, digitsGood, readable, wholeDigits}
+use Rattle.fields.specs.Field.{start, bitWidth, valueOf, withValue, digitsGood, readable, wholeDigits}
 
 -- what the fields hold, in the table's order
 abbrev pub readAll : List Field → List ℕ → List ℕ
@@ -42,7 +42,7 @@ allFit fits (f ∷ fs) (v ∷ vs) = fits f v && allFit fits fs vs
 
 -- two fields share no bit
 abbrev pub apart : Field → Field → Bool
-apart f g = leb (start f + width f) (start g) || leb (start g + width g) (start f)
+apart f g = leb (start f + bitWidth f) (start g) || leb (start g + bitWidth g) (start f)
 
 abbrev pub allApart : Field → List Field → Bool
 allApart f [] = true
@@ -51,9 +51,9 @@ allApart f (g ∷ gs) = apart f g && allApart f gs
 -- the one test of a table: each field is readable, has whole digits and is within the first n bits, and no two share a bit
 abbrev pub sound : ℕ → List Field → Bool
 sound n [] = true
-sound n (f ∷ fs) = (readable f && wholeDigits f) && (leb (start f + width f) n && (allApart f fs && sound n fs))
+sound n (f ∷ fs) = (readable f && wholeDigits f) && (leb (start f + bitWidth f) n && (allApart f fs && sound n fs))
 
 -- bit i of the header belongs to no field of the table
 abbrev pub unnamed : ℕ → List Field → Type 0
 unnamed i [] = Unit
-unnamed i (f ∷ fs) = ((i < start f) ⊎ (start f + width f ≤ i)) × unnamed i fs
+unnamed i (f ∷ fs) = ((i < start f) ⊎ (start f + bitWidth f ≤ i)) × unnamed i fs

@@ -109,7 +109,7 @@ pub fn binary_fits(f: Field, value: u64, rest: bool) -> bool
     ensures { λ r. ⌜ r ≡ (fitsBinary f value && rest) ⌝ }
 {
     let Field(_, _, width, decimal) = f;
-    let fits = bits::bits_fit(width, value);
+    let fits = bits::fits_bits(width, value);
     let no_field = !is_readable(f);
     (no_field | (decimal | fits)) & rest
 }
@@ -119,7 +119,7 @@ pub fn decimal_fits(f: Field, value: u64) -> bool
     ensures { λ r. ⌜ r ≡ fitsDecimal f value ⌝ }
 {
     let Field(_, _, width, decimal) = f;
-    let fits = bits::decimal_fits(width / 4, value);
+    let fits = bits::fits_digits(width / 4, value);
     let no_field = !is_readable(f);
     no_field | (!decimal | fits)
 }

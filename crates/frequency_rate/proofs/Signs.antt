@@ -13,25 +13,25 @@ use mir.ValLaws.{toZ-pos, toZ-ofZ}
 use borrow.Author.Tests.{eq-eqb, ne-eqb}
 use Rattle.bits.specs.Bits.{getBits}
 use Rattle.bits.proofs.Decimal.{decimal-room}
-use Rattle.fields.specs.Field.{start, width, digitCount, valueOf}
+use Rattle.fields.specs.Field.{start, bitWidth, digitCount, valueOf}
 use Rattle.fields.proofs.OneField.{value-lt}
 use Rattle.header.specs.Rows.{frequencyRateDigits, frequencyRatePower}
-use Rattle.frequency_rate.specs.FrequencyRate.{mostDigits, frequencyRateUnits}
+use Rattle.frequency_rate.specs.FrequencyRate.{digitsBelow, frequencyRateUnits}
 
 -- digits and power of any bytes
-pub digits-small : (b : List ℕ) → valueOf frequencyRateDigits b < mostDigits
+pub digits-small : (b : List ℕ) → valueOf frequencyRateDigits b < digitsBelow
 unfolding valueOf
-digits-small b = omega (arith, decimal-room (digitCount frequencyRateDigits) (getBits (start frequencyRateDigits) (width frequencyRateDigits) b))
+digits-small b = omega (arith, decimal-room (digitCount frequencyRateDigits) (getBits (start frequencyRateDigits) (bitWidth frequencyRateDigits) b))
 
 pub power-small : (b : List ℕ) → valueOf frequencyRatePower b < 8
 power-small b = value-lt frequencyRatePower b refl
 
 -- the greatest size: digits times a power of ten below 8
 abbrev pub mostUnits : ℕ
-mostUnits = mostDigits * 10000000
+mostUnits = digitsBelow * 10000000
 
-pub size-bound : (d t : ℕ) → d < mostDigits → t ≤ 10000000 → d * t ≤ mostUnits
-size-bound d t p q = mul-le-mul {n₁ = d} {m₁ = t} {n₂ = mostDigits} {m₂ = 10000000} (omega arith) q
+pub size-bound : (d t : ℕ) → d < digitsBelow → t ≤ 10000000 → d * t ≤ mostUnits
+size-bound d t p q = mul-le-mul {n₁ = d} {m₁ = t} {n₂ = digitsBelow} {m₂ = 10000000} (omega arith) q
 
 negative-fits : (x : ℕ) → x ≤ mostUnits → SFits w64 (negℤ (pos x))
 negative-fits zero h = record { sfits = omega arith }

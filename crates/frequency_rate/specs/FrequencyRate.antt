@@ -13,8 +13,8 @@ use Rattle.frequency_rate.specs.declared.FrequencyRateAnswer.the-variant
 use Rattle.record.specs.Record.{recordRefusal}
 
 -- five digits of four bits, decimal or not, are less than this
-abbrev pub mostDigits : ℕ
-mostDigits = 200000
+abbrev pub digitsBelow : ℕ
+digitsBelow = 200000
 
 -- by digits, power and sign bit
 unfoldable pub frequencyRateUnits : ℕ → ℕ → ℕ → ℤ

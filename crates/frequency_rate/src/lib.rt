@@ -2,7 +2,7 @@
 // is none.
 ghost use mathlib.Core.Path.{_≡_};
 ghost use Prim.Native.Nat.{_^_, _≤_, _<_};
-ghost use Rattle.frequency_rate.specs.FrequencyRate.{mostDigits, frequencyRateUnits, frequencyRateOf, frequencyRateAnswer, shownFrequencyRate};
+ghost use Rattle.frequency_rate.specs.FrequencyRate.{digitsBelow, frequencyRateUnits, frequencyRateOf, frequencyRateAnswer, shownFrequencyRate};
 
 // The frequency rate in units of 0.00001 Hz/s, or the refusal.
 pub enum FrequencyRateAnswer {
@@ -26,7 +26,7 @@ fn ten_to(power: u64) -> u64
 
 // The rate by its digits, power and sign bit.
 fn frequency_rate_units(digits: u64, power: u64, sign: u64) -> i64
-    requires { ⌜ (digits < mostDigits) × (power < 8) ⌝ }
+    requires { ⌜ (digits < digitsBelow) × (power < 8) ⌝ }
     ensures { λ r. ⌜ r ≡ frequencyRateUnits digits power sign ⌝ }
 {
     let size = (digits * ten_to(power)) as i64;

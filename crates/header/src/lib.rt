@@ -251,7 +251,7 @@ pub fn read_values(bytes: &[u8]) -> [u64; FIELD_COUNT]
 }
 
 // Whether every digit of the decimal fields is at most 9.
-pub fn digits_good(bytes: &[u8]) -> bool
+pub fn all_digits_good(bytes: &[u8]) -> bool
     ensures { λ r. ⌜ r ≡ allDigitsGood fields1985 (now (bytes .entry)) ⌝ }
 {
     let readback = fields::good_digits(bytes, READBACK);

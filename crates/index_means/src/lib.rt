@@ -86,7 +86,7 @@ pub fn second_means(o: Opening, second: u64, rows: &[u32], seconds: &[u32]) -> M
     if answer.refusal != 0 {
         return no_answer(answer.refusal);
     }
-    let count = index_query::sample_count(o, answer.records);
+    let count = index_query::samples_in_records(o, answer.records);
     let totals = answer.channels;
     MeansAnswer {
         refusal: 0,

@@ -13,7 +13,7 @@ use Rattle.index_model.specs.declared.Opening.{Opening}
 use Rattle.index_model.specs.Records.{secondOf}
 use Rattle.index_model.specs.Cells.{width, cell, withBlock, isGreatest, cellLimit, rowWithin, secondFrom}
 use Rattle.index_model.specs.Buffers.{Buffers}
-use Rattle.index_model.specs.Opening.{placeOf}
+use Rattle.index_model.specs.Opening.{windowPlace}
 use Rattle.index_model.specs.Calls.{fullCount}
 use Rattle.index_model.specs.Ledger.{Ledger, withEntry}
 use Rattle.index_model.specs.History.{isOf}
@@ -150,18 +150,18 @@ module _ (o : Opening) where
         w : (F o ≤ s) × (s < F o + C o)
         w = in-window o s (h b refl)
 
-        room : width * placeOf o s + width ≤ length (c .seconds)
+        room : width * windowPlace o s + width ≤ length (c .seconds)
         room = omega (arith, w .0, w .1, agree .seconds-long)
 
-        by-test : (t : Bool) → eqb s (F o + k) ≡ t → cell (withBlock (c .seconds) (placeOf o s) (secondFrom rows s (R o))) k j
+        by-test : (t : Bool) → eqb s (F o + k) ≡ t → cell (withBlock (c .seconds) (windowPlace o s) (secondFrom rows s (R o))) k j
             ≡ cond t (cellTotal L' (F o + k) j (R o)) (cellTotal L (F o + k) j (R o))
         by-test true e =
             let z : k ≡ s - F o = omega (arith, eqb-true s (F o + k) e) in
-            (λ t. cell (withBlock (c .seconds) (placeOf o s) (secondFrom rows s (R o))) (z t) j)
-            ∙ at-block (c .seconds) (placeOf o s) (secondFrom rows s (R o)) room (length-second rows s (R o)) j hj
+            (λ t. cell (withBlock (c .seconds) (windowPlace o s) (secondFrom rows s (R o))) (z t) j)
+            ∙ at-block (c .seconds) (windowPlace o s) (secondFrom rows s (R o)) room (length-second rows s (R o)) j hj
             ∙ pass-is L' g rows are s j hj
             ∙ (λ t. cellTotal L' (eqb-true s (F o + k) e t) j (R o))
         by-test false e =
-            at-other (c .seconds) (placeOf o s) (secondFrom rows s (R o)) room (length-second rows s (R o)) k j hj
+            at-other (c .seconds) (windowPlace o s) (secondFrom rows s (R o)) room (length-second rows s (R o)) k j hj
             (λ z. eqb-false s (F o + k) e (omega (arith, z, w .0)))
             ∙ agree .seconds-are k hk j hj

@@ -13,7 +13,7 @@ use Rattle.index_model.specs.declared.Opening.{Opening}
 use Rattle.index_model.specs.Records.{secondOf}
 use Rattle.index_model.specs.Cells.{width, cell, blockAt, withBlock, rowOf, isGreatest, cellLimit, mergeBy, merged}
 use Rattle.index_model.specs.Buffers.{Buffers}
-use Rattle.index_model.specs.Opening.{placeOf}
+use Rattle.index_model.specs.Opening.{windowPlace}
 use Rattle.index_model.specs.Calls.{fullCount, leave, join, secondsInserted, rowInserted, secondsRemoved, rowRemoved}
 use Rattle.index_model.specs.Ledger.{Ledger, withEntry}
 use Rattle.index_model.specs.History.{isOf}
@@ -145,9 +145,9 @@ module _ (o : Opening) (L : Ledger) (c : Buffers) (regular : Regular o L) (agree
     new-regular : Regular o new
     new-regular = regular-with o L regular n p q b sound room
 
-    put-is : secondsInserted o (n - 1) s (rowOf b) c ≡ join (isOf s (L n)) (secondsLeft (some b)) (placeOf o s) (rowOf b)
+    put-is : secondsInserted o (n - 1) s (rowOf b) c ≡ join (isOf s (L n)) (secondsLeft (some b)) (windowPlace o s) (rowOf b)
     unfolding secondsInserted
-    put-is = λ t. join (old-within o L c agree n p q s t) (left-is (some b) t) (placeOf o s) (rowOf b)
+    put-is = λ t. join (old-within o L c agree n p q s t) (left-is (some b) t) (windowPlace o s) (rowOf b)
 
     long : width * C o ≤ length (secondsLeft (some b))
     long = omega (arith, agree .seconds-long, left-length (some b))
@@ -157,11 +157,11 @@ module _ (o : Opening) (L : Ledger) (c : Buffers) (regular : Regular o L) (agree
 
     -- the second that is joined: its other records' totals, merged with the row
     added : (k j : ℕ) → k < C o → j < width → eqb s (F o + k) ≡ true → isOf (F o + k) (L n) ≡ false
-        → cell (withBlock (secondsLeft (some b)) (placeOf o s) (merged (blockAt (secondsLeft (some b)) (placeOf o s)) (rowOf b)))
+        → cell (withBlock (secondsLeft (some b)) (windowPlace o s) (merged (blockAt (secondsLeft (some b)) (windowPlace o s)) (rowOf b)))
         k j ≡ cellTotal new (F o + k) j (R o)
     added k j hk hj e e' =
-        (λ t. cell (withBlock seconds (placeOf o s) (merged part (rowOf b))) (z t) j)
-        ∙ at-block seconds (placeOf o s) (merged part (rowOf b)) (omega (arith, w .0, w .1, long))
+        (λ t. cell (withBlock seconds (windowPlace o s) (merged part (rowOf b))) (z t) j)
+        ∙ at-block seconds (windowPlace o s) (merged part (rowOf b)) (omega (arith, w .0, w .1, long))
         (length-merged part (rowOf b)) j hj
         ∙ merged-at part (rowOf b) j hj
         ∙ (λ t. mergeBy g (before t) x)
@@ -172,7 +172,7 @@ module _ (o : Opening) (L : Ledger) (c : Buffers) (regular : Regular o L) (agree
         seconds = secondsLeft (some b)
 
         part : List ℕ
-        part = blockAt seconds (placeOf o s)
+        part = blockAt seconds (windowPlace o s)
 
         g : Bool
         g = isGreatest j
@@ -183,12 +183,12 @@ module _ (o : Opening) (L : Ledger) (c : Buffers) (regular : Regular o L) (agree
         others : ℕ
         others = cellTotal (withEntry L n none) (F o + k) j (R o)
 
-        z : k ≡ placeOf o s
+        z : k ≡ windowPlace o s
         z = omega (arith, eqb-true s (F o + k) e)
 
         before : getD part j 0 ≡ others
         before =
-            block-at seconds (placeOf o s) j hj
+            block-at seconds (windowPlace o s) j hj
             ∙ (λ t. cell seconds (sym z t) j)
             ∙ left-are (some b) new-regular k hk j hj
             ∙ (λ t. cond (e' t) (cellTotal new (F o + k) j (R o)) (cellTotal L (F o + k) j (R o)))
@@ -200,7 +200,7 @@ module _ (o : Opening) (L : Ledger) (c : Buffers) (regular : Regular o L) (agree
         is = one-share L n (some b) (F o + k) j (R o) p q ∙ (λ t. plainBy g others (share-all (F o + k) j b e t))
 
     put-seconds : (k : ℕ) → k < C o → (j : ℕ) → j < width
-        → cell (join (isOf s (L n)) (secondsLeft (some b)) (placeOf o s) (rowOf b)) k j ≡ cellTotal new (F o + k) j (R o)
+        → cell (join (isOf s (L n)) (secondsLeft (some b)) (windowPlace o s) (rowOf b)) k j ≡ cellTotal new (F o + k) j (R o)
     unfolding join
     put-seconds k hk j hj = by-tests (isOf s (L n)) refl (eqb s (F o + k)) refl
       where
@@ -211,7 +211,7 @@ module _ (o : Opening) (L : Ledger) (c : Buffers) (regular : Regular o L) (agree
         here t e e' = (λ i. isOf (sym (eqb-true s (F o + k) e) i) (L n)) ∙ e'
 
         by-tests : (t : Bool) → isOf s (L n) ≡ t → (u : Bool) → eqb s (F o + k) ≡ u
-            → cell (cond t seconds (withBlock seconds (placeOf o s) (merged (blockAt seconds (placeOf o s)) (rowOf b)))) k j
+            → cell (cond t seconds (withBlock seconds (windowPlace o s) (merged (blockAt seconds (windowPlace o s)) (rowOf b)))) k j
             ≡ cellTotal new (F o + k) j (R o)
         by-tests true et true eu =
             left-are (some b) new-regular k hk j hj
@@ -219,8 +219,8 @@ module _ (o : Opening) (L : Ledger) (c : Buffers) (regular : Regular o L) (agree
         by-tests true et false eu = left-are (some b) new-regular k hk j hj ∙ settled (some b) k j eu (isOf (F o + k) (L n)) refl
         by-tests false et true eu = added k j hk hj eu (here false eu et)
         by-tests false et false eu =
-            at-other seconds (placeOf o s) (merged (blockAt seconds (placeOf o s)) (rowOf b)) (omega (arith, w .0, w .1, long))
-            (length-merged (blockAt seconds (placeOf o s)) (rowOf b)) k j hj
+            at-other seconds (windowPlace o s) (merged (blockAt seconds (windowPlace o s)) (rowOf b)) (omega (arith, w .0, w .1, long))
+            (length-merged (blockAt seconds (windowPlace o s)) (rowOf b)) k j hj
             (λ z. eqb-false s (F o + k) eu (omega (arith, z, w .0)))
             ∙ left-are (some b) new-regular k hk j hj
             ∙ settled (some b) k j eu (isOf (F o + k) (L n)) refl

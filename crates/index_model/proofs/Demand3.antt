@@ -9,7 +9,7 @@ use Rattle.answers.specs.Answer.{accepted}
 use Rattle.index_model.specs.declared.Opening.{Opening}
 use Rattle.index_model.specs.Cells.{blockAt}
 use Rattle.index_model.specs.Buffers.{Buffers}
-use Rattle.index_model.specs.Opening.{limitsWrong, heldWrong, inWindow, placeOf, openingOf, openRefusal, openAnswer, opened}
+use Rattle.index_model.specs.Opening.{limitsWrong, heldWrong, inWindow, windowPlace, openingOf, openRefusal, openAnswer, opened}
 use Rattle.index_model.specs.Calls.{secondShown, isConsistent, consistencyAnswer}
 use Rattle.index_model.specs.Ledger.{Ledger, noRecords, ledgerSecond, Call}
 use Rattle.index_model.specs.History.{after, replies, ledgerAfter, ledgerReplies, EachAlters}
@@ -24,7 +24,7 @@ pub record Demand3 (o : Opening) (c : Buffers) (calls : List Call) : Type 0 wher
   pub answers : replies o calls c ≡ ledgerReplies o calls noRecords
   -- after the list, the totals and verdict that the cells of each second of the window say are those worked out from nothing
   -- over the records then held
-  pub seconds : (s : ℕ) → inWindow o s ≡ true → secondShown o (blockAt (after o calls c .seconds) (placeOf o s))
+  pub seconds : (s : ℕ) → inWindow o s ≡ true → secondShown o (blockAt (after o calls c .seconds) (windowPlace o s))
       ≡ ledgerSecond o (ledgerAfter o calls noRecords) s
   -- and a test would say yes
   pub consistent : isConsistent o (after o calls c) ≡ true

@@ -20,7 +20,7 @@ use Rattle.index_model.specs.Records.{numberOf, secondOf}
 use Rattle.index_model.specs.Second.{noSecond}
 use Rattle.index_model.specs.Cells.{width, cell, blockAt, flag, rowWithin, cellFrom}
 use Rattle.index_model.specs.Buffers.{Buffers}
-use Rattle.index_model.specs.Opening.{limitsWrong, heldWrong, openingRefusal, otherReel, isOutside, inWindow, placeOf}
+use Rattle.index_model.specs.Opening.{limitsWrong, heldWrong, openingRefusal, otherReel, isOutside, inWindow, windowPlace}
 use Rattle.index_model.specs.Calls.{
   fullCount,
   isFull,
@@ -130,9 +130,9 @@ module _ (o : Opening) (fine : limitsWrong o || heldWrong o ≡ false) (L : Ledg
       w : (F o ≤ s) × (s < F o + C o)
       w = in-window o s (not-false (inWindow o s) e')
 
-      count : cell (c .seconds) (placeOf o s) 0 ≡ cellTotal L s 0 (R o)
+      count : cell (c .seconds) (windowPlace o s) 0 ≡ cellTotal L s 0 (R o)
       count =
-          agree .seconds-are (placeOf o s) (omega (arith, w .0, w .1)) 0 (omega arith)
+          agree .seconds-are (windowPlace o s) (omega (arith, w .0, w .1)) 0 (omega arith)
           ∙ (λ t. cellTotal L ((let z : F o + (s - F o) ≡ s = omega (arith, w .0) in z) t) 0 (R o))
 
       own : flag (rowWithin (c .rows) (n - 1) s) ≡ share s 0 (L n)
@@ -171,11 +171,11 @@ module _ (o : Opening) (fine : limitsWrong o || heldWrong o ≡ false) (L : Ledg
   -- ## a question
 
   -- what the cells of a second of the window say
-  pub shown-is : (s : ℕ) → inWindow o s ≡ true → secondShown o (blockAt (c .seconds) (placeOf o s)) ≡ ledgerSecond o L s
+  pub shown-is : (s : ℕ) → inWindow o s ≡ true → secondShown o (blockAt (c .seconds) (windowPlace o s)) ≡ ledgerSecond o L s
   shown-is s e =
       ap (secondShown o)
-      (block-cells (c .seconds) (placeOf o s) (omega (arith, w .0, w .1, agree .seconds-long)) (λ (j : ℕ). cellTotal L s j (R o))
-      (λ j h. agree .seconds-are (placeOf o s) (omega (arith, w .0, w .1)) j h ∙ (λ t. cellTotal L (z t) j (R o))))
+      (block-cells (c .seconds) (windowPlace o s) (omega (arith, w .0, w .1, agree .seconds-long)) (λ (j : ℕ). cellTotal L s j (R o))
+      (λ j h. agree .seconds-are (windowPlace o s) (omega (arith, w .0, w .1)) j h ∙ (λ t. cellTotal L (z t) j (R o))))
       ∙ second-decoded o L (regular .sound) s
     where
       w : (F o ≤ s) × (s < F o + C o)
@@ -187,11 +187,11 @@ module _ (o : Opening) (fine : limitsWrong o || heldWrong o ≡ false) (L : Ledg
   pub ask-answered : (s : ℕ) → queryAnswer o s c ≡ ledgerQuery o L s
   unfolding queryAnswer queryRefusal ledgerQuery
   ask-answered s =
-      ap (λ (x : ℕ). unless x noSecond (secondShown o (blockAt (c .seconds) (placeOf o s)))) (then-none _ _ opening-accepted)
+      ap (λ (x : ℕ). unless x noSecond (secondShown o (blockAt (c .seconds) (windowPlace o s)))) (then-none _ _ opening-accepted)
       ∙ by-test (inWindow o s) refl
     where
       by-test : (t : Bool) → inWindow o s ≡ t
-          → unless (first (17 when not t ∷ [])) noSecond (secondShown o (blockAt (c .seconds) (placeOf o s)))
+          → unless (first (17 when not t ∷ [])) noSecond (secondShown o (blockAt (c .seconds) (windowPlace o s)))
           ≡ unless (first (17 when not t ∷ [])) noSecond (ledgerSecond o L s)
       by-test true e = λ i. accepted (shown-is s e i)
       by-test false e = refl

@@ -26,7 +26,7 @@ use Rattle.index_model.specs.Cells.{
   cellFrom,
   secondFrom,
 }
-use Rattle.index_model.specs.Opening.{inWindow, placeOf}
+use Rattle.index_model.specs.Opening.{inWindow, windowPlace}
 use Rattle.index_model.specs.Calls.{leave, join}
 use Rattle.index_model.specs.History.{isOf}
 use Rattle.index_model.proofs.Blocks.{length-with, elsewhere, block-at}
@@ -79,7 +79,7 @@ module _ (o : Opening) where
   -- leaving, by what the number had
   abbrev pub leaveFor : List ℕ → Option (List ℕ) → List ℕ → List ℕ
   leaveFor rows none seconds = seconds
-  leaveFor rows (some b) seconds = withBlock seconds (placeOf o (secondOf b)) (secondFrom rows (secondOf b) (R o))
+  leaveFor rows (some b) seconds = withBlock seconds (windowPlace o (secondOf b)) (secondFrom rows (secondOf b) (R o))
 
   pub leave-is : (rows : List ℕ) (held : Option (List ℕ)) (seconds : List ℕ) → Inside held
       → leave o rows (getD (rowFor held) 0 0) (getD (rowFor held) 3 0) seconds ≡ leaveFor rows held seconds
@@ -88,42 +88,42 @@ module _ (o : Opening) where
   leave-is rows (some b) seconds h =
       (λ t. leave o rows (row-records b t) (row-second b t) seconds)
       ∙ (λ t. cond (h b refl t)
-      (withBlock seconds (placeOf o (secondOf b)) (secondFrom rows (secondOf b) (R o))) seconds)
+      (withBlock seconds (windowPlace o (secondOf b)) (secondFrom rows (secondOf b) (R o))) seconds)
 
   fits : (s : ℕ) (seconds : List ℕ) → inWindow o s ≡ true → width * C o ≤ length seconds
-      → width * placeOf o s + width ≤ length seconds
+      → width * windowPlace o s + width ≤ length seconds
   fits s seconds e long = let w = in-window o s e in omega (arith, w .0, w .1)
 
   -- a second's place is that of a cell only if it is that cell's second
-  pub other-place : (s m : ℕ) → inWindow o s ≡ true → eqb s (F o + m / width) ≡ false → m / width ≡ placeOf o s → ⊥
+  pub other-place : (s m : ℕ) → inWindow o s ≡ true → eqb s (F o + m / width) ≡ false → m / width ≡ windowPlace o s → ⊥
   other-place s m e ne z = let w = in-window o s e in eqb-false s (F o + m / width) ne (omega (arith, w .0, z))
 
   pub length-leave : (rows : List ℕ) (held : Option (List ℕ)) (seconds : List ℕ) → Inside held → width * C o ≤ length seconds
       → length (leaveFor rows held seconds) ≡ length seconds
   length-leave rows none seconds h long = refl
   length-leave rows (some b) seconds h long =
-      length-with seconds (placeOf o (secondOf b)) _ (fits (secondOf b) seconds (h b refl) long)
+      length-with seconds (windowPlace o (secondOf b)) _ (fits (secondOf b) seconds (h b refl) long)
       (length-second rows (secondOf b) (R o))
 
   pub leave-frame : (rows : List ℕ) (held : Option (List ℕ)) (seconds : List ℕ) → Inside held → width * C o ≤ length seconds
       → (m : ℕ) → isOf (F o + m / width) held ≡ false → getD (leaveFor rows held seconds) m 0 ≡ getD seconds m 0
   leave-frame rows none seconds h long m ne = refl
   leave-frame rows (some b) seconds h long m ne =
-      elsewhere seconds (placeOf o (secondOf b)) _ (fits (secondOf b) seconds (h b refl) long)
+      elsewhere seconds (windowPlace o (secondOf b)) _ (fits (secondOf b) seconds (h b refl) long)
       (length-second rows (secondOf b) (R o))
       m (other-place (secondOf b) m (h b refl) ne)
 
   module _ (s : ℕ) (window : inWindow o s ≡ true) (row : List ℕ) (seconds : List ℕ) (long : width * C o ≤ length seconds) where
-    pub length-join : (anew : Bool) → length (join anew seconds (placeOf o s) row) ≡ length seconds
+    pub length-join : (anew : Bool) → length (join anew seconds (windowPlace o s) row) ≡ length seconds
     unfolding join
     length-join true = refl
     length-join false =
-        length-with seconds (placeOf o s) _ (fits s seconds window long) (length-merged (blockAt seconds (placeOf o s)) row)
+        length-with seconds (windowPlace o s) _ (fits s seconds window long) (length-merged (blockAt seconds (windowPlace o s)) row)
 
-    pub join-frame : (anew : Bool) (m : ℕ) → eqb s (F o + m / width) ≡ false → getD (join anew seconds (placeOf o s) row) m 0
+    pub join-frame : (anew : Bool) (m : ℕ) → eqb s (F o + m / width) ≡ false → getD (join anew seconds (windowPlace o s) row) m 0
         ≡ getD seconds m 0
     unfolding join
     join-frame true m ne = refl
     join-frame false m ne =
-        elsewhere seconds (placeOf o s) _ (fits s seconds window long) (length-merged (blockAt seconds (placeOf o s)) row)
+        elsewhere seconds (windowPlace o s) _ (fits s seconds window long) (length-merged (blockAt seconds (windowPlace o s)) row)
         m (other-place s m window ne)

@@ -34,7 +34,7 @@ use Rattle.index_model.specs.Cells.{
   secondFrom,
 }
 use Rattle.index_model.specs.Buffers.{Buffers}
-use Rattle.index_model.specs.Opening.{openingRefusal, otherReel, isOutside, inWindow, placeOf}
+use Rattle.index_model.specs.Opening.{openingRefusal, otherReel, isOutside, inWindow, windowPlace}
 
 -- L: the records of a full second
 abbrev pub fullCount : Opening → ℕ
@@ -46,7 +46,7 @@ fullCount o = recordsPerSecond (sampleRateOf (o .«sample_rate_hz»))
 unfoldable pub leave : Opening → List ℕ → ℕ → ℕ → List ℕ → List ℕ
 leave o rows held old seconds =
     cond (not (eqb held 0) && inWindow o old)
-    (withBlock seconds (placeOf o old) (secondFrom rows old (o .«highest_number»)))
+    (withBlock seconds (windowPlace o old) (secondFrom rows old (o .«highest_number»)))
     seconds
 
 -- a row added to the second at a place, unless that second was worked out anew with it
@@ -57,7 +57,7 @@ join anew seconds k row = cond anew seconds (withBlock seconds k (merged (blockA
 unfoldable pub secondsInserted : Opening → ℕ → ℕ → List ℕ → Buffers → List ℕ
 secondsInserted o i s row c =
     join (rowWithin (c .rows) i s) (leave o (withBlock (c .rows) i row) (cell (c .rows) i 0) (cell (c .rows) i 3) (c .seconds))
-    (placeOf o s)
+    (windowPlace o s)
     row
 
 abbrev pub rowInserted : Opening → ℕ → ℕ → List ℕ → Buffers → Buffers
@@ -74,7 +74,7 @@ rowRemoved o i c = record { rows = withBlock (c .rows) i noRow; seconds = second
 
 -- second s has L records beside row i: that row itself does not count where it is of that second
 unfoldable pub isFull : Opening → ℕ → ℕ → Buffers → Bool
-isFull o i s c = leb (fullCount o + flag (rowWithin (c .rows) i s)) (cell (c .seconds) (placeOf o s) 0)
+isFull o i s c = leb (fullCount o + flag (rowWithin (c .rows) i s)) (cell (c .seconds) (windowPlace o s) 0)
 
 module _ (o : Opening) (b : List ℕ) (c : Buffers) where
   unfoldable pub insertRefusal : ℕ
@@ -146,7 +146,7 @@ module _ (o : Opening) (s : ℕ) (c : Buffers) where
   queryRefusal = openingRefusal o c then first (17 when not (inWindow o s) ∷ [])
 
   unfoldable pub queryAnswer : Answer SecondTotals
-  queryAnswer = unless queryRefusal noSecond (secondShown o (blockAt (c .seconds) (placeOf o s)))
+  queryAnswer = unless queryRefusal noSecond (secondShown o (blockAt (c .seconds) (windowPlace o s)))
 
 -- ## book test
 

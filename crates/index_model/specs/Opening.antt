@@ -67,8 +67,8 @@ unfoldable pub inWindow : Opening → ℕ → Bool
 inWindow o s = leb (o .«first_second») s && ltb s (o .«first_second» + o .«second_count»)
 
 -- its place among the seconds of the window, from 0
-abbrev pub placeOf : Opening → ℕ → ℕ
-placeOf o s = s - o .«first_second»
+abbrev pub windowPlace : Opening → ℕ → ℕ
+windowPlace o s = s - o .«first_second»
 
 -- ## opening itself
 

@@ -10,7 +10,7 @@ use borrow.Author.Tests.{lt-ltb, le-ltb, le-leb, lt-leb}
 use Rattle.lists.proofs.Order.{le-or-lt}
 use Rattle.index_model.specs.declared.Opening.{Opening}
 use Rattle.index_model.specs.Cells.{width}
-use Rattle.index_model.specs.Opening.{daySeconds, inWindow, placeOf}
+use Rattle.index_model.specs.Opening.{daySeconds, inWindow, windowPlace}
 use Rattle.index_model.proofs.Window.{F, C}
 
 -- two tests that hold in the same cases
@@ -35,7 +35,7 @@ module _ (o : Opening) (s : ℕ) where
   unfolding inWindow
   before-window h = sym (λ i. lt-leb (F o) s h i && ltb s (F o + C o))
 
-  pub before-first : s < F o → 0 ≡ placeOf o s
+  pub before-first : s < F o → 0 ≡ windowPlace o s
   before-first h = omega arith
 
   pub from-window : F o ≤ s → ltb (s - F o) (C o) ≡ inWindow o s

@@ -10,7 +10,7 @@ ghost use Rattle.answers.specs.Refusal.{_when_, first, _then_};
 ghost use Rattle.record.specs.Record.{recordRefusal};
 ghost use Rattle.index_model.specs.Cells.{width};
 ghost use Rattle.index_model.specs.Buffers.{lent};
-ghost use Rattle.index_model.specs.Opening.{daySeconds, limitsWrong, heldWrong, tooSmall, openingRefusal, otherReel, isOutside, inWindow, placeOf, openingOf, openAnswer, opened};
+ghost use Rattle.index_model.specs.Opening.{daySeconds, limitsWrong, heldWrong, tooSmall, openingRefusal, otherReel, isOutside, inWindow, windowPlace, openingOf, openAnswer, opened};
 ghost use Rattle.index_model.specs.Calls.{fullCount};
 ghost use Rattle.index_open.specs.Shown.{shownOpen};
 use index_model::Opening;
@@ -122,8 +122,8 @@ pub fn in_window(o: Opening, s: u64) -> bool
 }
 
 // The place of a second among those of the window, from 0; of one before the window, 0.
-pub fn place_of(o: Opening, s: u64) -> u64
-    ensures { λ r. ⌜ r ≡ placeOf o s ⌝ }
+pub fn window_place(o: Opening, s: u64) -> u64
+    ensures { λ r. ⌜ r ≡ windowPlace o s ⌝ }
 {
     if s < o.first_second {
         return 0;

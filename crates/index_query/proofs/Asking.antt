@@ -13,7 +13,7 @@ use Rattle.index_model.specs.Second.{noSecond}
 use Rattle.index_model.specs.Cells.{blockAt}
 use Rattle.index_model.specs.Buffers.{Buffers}
 use Rattle.index_model.specs.Limits.{WithinLimits}
-use Rattle.index_model.specs.Opening.{openingRefusal, inWindow, placeOf}
+use Rattle.index_model.specs.Opening.{openingRefusal, inWindow, windowPlace}
 use Rattle.index_model.specs.Calls.{secondShown, queryRefusal, queryAnswer}
 use Rattle.index_model.proofs.Limits.{in-window, within-limits}
 use Rattle.index_cells.specs.Blocks.{blockOrNone}
@@ -35,16 +35,16 @@ module _ (o : Opening) (s : ℕ) (c : Buffers) where
     window : (o .«first_second» ≤ s) × (s < o .«first_second» + o .«second_count»)
     window = in-window o s (not-false (inWindow o s) (none-applies (17 when not (inWindow o s) ∷ []) 0 tt (both .1)))
 
-    pub asked : accepted (secondShown o (blockOrNone (c .seconds) (placeOf o s))) ≡ queryAnswer o s c
+    pub asked : accepted (secondShown o (blockOrNone (c .seconds) (windowPlace o s))) ≡ queryAnswer o s c
     unfolding queryAnswer
     asked =
         (λ t. accepted (secondShown o
-        (block-read (c .seconds) (o .«second_count») (placeOf o s) (limits .seconds-long)
+        (block-read (c .seconds) (o .«second_count») (windowPlace o s) (limits .seconds-long)
         (omega (arith, window .0, window .1)) t)))
-        ∙ unless-none refusal noSecond (secondShown o (blockAt (c .seconds) (placeOf o s))) none
+        ∙ unless-none refusal noSecond (secondShown o (blockAt (c .seconds) (windowPlace o s))) none
 
   pub not-asked : (n : ℕ) → n ≡ refusal → (n ≡ 0 → ⊥) → refused noSecond n ≡ queryAnswer o s c
   unfolding queryAnswer
   not-asked n e some =
       ap (λ (n : ℕ). refused noSecond n) e
-      ∙ unless-some refusal noSecond (secondShown o (blockAt (c .seconds) (placeOf o s))) (λ z. some (e ∙ z))
+      ∙ unless-some refusal noSecond (secondShown o (blockAt (c .seconds) (windowPlace o s))) (λ z. some (e ∙ z))

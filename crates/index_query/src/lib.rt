@@ -106,7 +106,7 @@ fn is_kept(cells: [u32; WIDTH], full: u64) -> bool
 }
 
 // The samples of each channel in so many records.
-pub fn sample_count(o: Opening, records: u32) -> u64
+pub fn samples_in_records(o: Opening, records: u32) -> u64
     ensures { λ r. ⌜ (r ≡ records * samplesPerRecord (sampleRateOf (o .«sample_rate_hz»))) × (r ≤ sampleLimit) ⌝ }
 {
     let rate = sample_rates::sample_rate_of(o.sample_rate_hz);
@@ -129,7 +129,7 @@ fn totals_from(cells: [u32; WIDTH], count: u64) -> [Total; 4]
 fn second_from(o: Opening, cells: [u32; WIDTH]) -> SecondAnswer
     ensures { λ r. ⌜ (shownSecond r ≡ accepted (secondShown o cells)) × ExactTotals (r .channels) ⌝ }
 {
-    let count = sample_count(o, cells[RECORDS]);
+    let count = samples_in_records(o, cells[RECORDS]);
     let channels = totals_from(cells, count);
     SecondAnswer {
         refusal: 0,
@@ -177,7 +177,7 @@ pub fn query(o: Opening, second: u64, rows: &[u32], seconds: &[u32]) -> SecondAn
 {
     let n = judge(o, second, rows, seconds);
     if n == 0 {
-        let place = index_open::place_of(o, second);
+        let place = index_open::window_place(o, second);
         return second_from(o, index_cells::block(seconds, place));
     }
     no_second(n)

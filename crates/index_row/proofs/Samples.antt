@@ -8,7 +8,7 @@ use lib.ListN.{length, length-take}
 use Rattle.lists.proofs.Fill.{length-tab}
 use Rattle.bits.proofs.Bits.{getBits-lt}
 use Rattle.channels.specs.Sample.{sampleOf, samplesOf}
-use Rattle.fields.specs.Field.{start, width, valueOf}
+use Rattle.fields.specs.Field.{start, bitWidth, valueOf}
 use Rattle.header.specs.Rows.{timeTag}
 use Rattle.sample_rates.specs.Rates.{mostSamples}
 use Rattle.record.specs.Stretch.{stretchOf}
@@ -26,7 +26,7 @@ stretch-most b = simp length-take (omega (arith, count-small b))
 
 pub tag-small : (b : List ℕ) → valueOf timeTag b < cellLimit
 unfolding valueOf
-tag-small b = omega (arith, getBits-lt (start timeTag) (width timeTag) b)
+tag-small b = omega (arith, getBits-lt (start timeTag) (bitWidth timeTag) b)
 
 -- a channel's total over n samples
 module _ (stretch : List ℕ) (channel n : ℕ) where

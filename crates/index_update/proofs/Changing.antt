@@ -11,7 +11,7 @@ use Rattle.index_model.specs.declared.Opening.{Opening}
 use Rattle.index_model.specs.Cells.{width, blockAt, withBlock, merged, secondFrom}
 use Rattle.index_model.specs.Buffers.{lent}
 use Rattle.index_model.specs.Limits.{WithinLimits}
-use Rattle.index_model.specs.Opening.{inWindow, placeOf}
+use Rattle.index_model.specs.Opening.{inWindow, windowPlace}
 use Rattle.index_model.specs.Calls.{leave, join}
 use Rattle.index_model.proofs.Limits.{in-window}
 use Rattle.index_cells.specs.Blocks.{blockOrNone, blockPut}
@@ -34,18 +34,18 @@ module _ (o : Opening) (rows : List ℕ) (was old : ℕ) (seconds : List ℕ) wh
   left-place e = placed o old (holds (inWindow o old) (right (not (eqb was 0)) (inWindow o old) (held isLeft e)))
 
   pub second-left : WithinLimits o (lent rows seconds) → isLeft ≡ true
-      → blockPut seconds (placeOf o old) (anew (min (o .«highest_number») (length rows / width))) ≡ leave o rows was old seconds
+      → blockPut seconds (windowPlace o old) (anew (min (o .«highest_number») (length rows / width))) ≡ leave o rows was old seconds
   unfolding leave
   second-left limits e =
       let p = left-place e in
-      (λ t. blockPut seconds (placeOf o old) (anew (all-rows rows (o .«highest_number») (limits .rows-long) t)))
-      ∙ block-put seconds (o .«second_count») (placeOf o old) (limits .seconds-long) (omega (arith, p .from, p .until))
+      (λ t. blockPut seconds (windowPlace o old) (anew (all-rows rows (o .«highest_number») (limits .rows-long) t)))
+      ∙ block-put seconds (o .«second_count») (windowPlace o old) (limits .seconds-long) (omega (arith, p .from, p .until))
       (anew (o .«highest_number»))
-      ∙ sym (λ t. cond (e t) (withBlock seconds (placeOf o old) (anew (o .«highest_number»))) seconds)
+      ∙ sym (λ t. cond (e t) (withBlock seconds (windowPlace o old) (anew (o .«highest_number»))) seconds)
 
   pub none-left : isLeft ≡ false → seconds ≡ leave o rows was old seconds
   unfolding leave
-  none-left e = sym (λ t. cond (e t) (withBlock seconds (placeOf o old) (anew (o .«highest_number»))) seconds)
+  none-left e = sym (λ t. cond (e t) (withBlock seconds (windowPlace o old) (anew (o .«highest_number»))) seconds)
 
 -- the second at place k
 module _ (done : Bool) (seconds : List ℕ) (k : ℕ) (row : List ℕ) where

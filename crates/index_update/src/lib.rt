@@ -57,7 +57,7 @@ fn leave_second(o: Opening, rows: &[u32], held: u32, old: u32, seconds: &mut [u3
     let second = index_cells::wide(old);
     if is_left(o, held, second) {
         let cells = index_cells::second_cells(rows, second, o.highest_number);
-        index_cells::put_block(seconds, index_open::place_of(o, second), cells);
+        index_cells::put_block(seconds, index_open::window_place(o, second), cells);
     }
 }
 
@@ -100,7 +100,7 @@ fn insert_row(
 {
     let anew = row_within(rows, i, second);
     replace_row(o, i, row, rows, seconds);
-    let place = index_open::place_of(o, second);
+    let place = index_open::window_place(o, second);
     join_second(anew, seconds, place, row);
 }
 
@@ -109,7 +109,7 @@ fn is_full(o: Opening, i: u64, second: u64, rows: &[u32], seconds: &[u32]) -> bo
     ensures { λ r. ⌜ r ≡ isFull o i second (lent (now (rows .entry)) (now (seconds .entry))) ⌝ }
 {
     let own = one_if(row_within(rows, i, second));
-    let place = index_open::place_of(o, second);
+    let place = index_open::window_place(o, second);
     let records = index_cells::read_cell(seconds, place, RECORDS);
     index_open::full_count(o) + own <= index_cells::wide(records)
 }

@@ -15,7 +15,7 @@ use Rattle.times.specs.SampleTime.{sampleTime}
 use Rattle.reel.specs.Reel.{Found, accepted, finished, refused}
 use Rattle.reel.specs.Walk.{Walk, walk}
 use Rattle.text.specs.declared.Columns.{Columns}
-use Rattle.text.specs.Text.{headerLine, recordLine, refusedLine, lineOf}
+use Rattle.text.specs.Text.{headerLine, recordLine, refusedLine, lineLength}
 use Rattle.text.specs.Placed.{refusalAt}
 
 -- 24: an input that is longer
@@ -69,7 +69,7 @@ mostRecords = longestInput / shortestRecord
 -- the longest line of a record: a number of 5 digits, a time of 11 (86,399,999,000), the clock origin, 8 digits before the
 -- point of the frequency and 7 before that of the rate: 51 bytes
 abbrev pub longestLine : ℕ
-longestLine = lineOf 5 11 1 8 7
+longestLine = lineLength 5 11 1 8 7
 
 -- the longest listing: the header line, that many longest lines and, for the 16 bytes then left, `refused,1`: 41 + 84 * 51 + 10
 -- bytes

@@ -37,7 +37,7 @@ fn judged(bytes: &[u8]) -> Judged
         day: fields::read_field(bytes, header::DAY),
         time_tag: fields::read_field(bytes, header::TIME_TAG),
         readback_tag: fields::read_field(bytes, header::READBACK_TAG),
-        decimals: header::digits_good(bytes),
+        decimals: header::all_digits_good(bytes),
         clock_origin: fields::read_field(bytes, header::CLOCK_ORIGIN),
         sync: fields::read_field(bytes, header::SYNC),
     }

@@ -14,7 +14,7 @@ use borrow.Author.Tests.{ltb-false, le-ltb, eq-eqb}
 use Rattle.lists.proofs.Truth.{left, right, or-false}
 use Rattle.bits.specs.Bits.{bitAt, getBits}
 use Rattle.bits.proofs.Bits.{num-ext, getBits-lt}
-use Rattle.fields.specs.Field.{start, width, valueOf}
+use Rattle.fields.specs.Field.{start, bitWidth, valueOf}
 use Rattle.fields.specs.Table.{allDigitsGood}
 use Rattle.header.specs.Format.{headerBytes, fields1985}
 use Rattle.header.specs.Rows.{lengthWords}
@@ -30,7 +30,7 @@ use Rattle.reel.specs.Reel.{headerWords, wordsIn, restChecks, restRefusa
 
 pub words-small : (b : List ℕ) → wordsIn b < 2 ^ 16
 unfolding valueOf
-words-small b = getBits-lt (start lengthWords) (width lengthWords) b
+words-small b = getBits-lt (start lengthWords) (bitWidth lengthWords) b
 
 -- a field of bits that lies within the first n bytes is read from those alone
 pub getBits-take : (s w n : ℕ) (b : List ℕ) → s + w ≤ 8 * n → getBits s w (take n b) ≡ getBits s w b
@@ -41,7 +41,7 @@ getBits-take s w n b h =
 
 pub words-take : (n : ℕ) (b : List ℕ) → headerBytes ≤ n → wordsIn (take n b) ≡ wordsIn b
 unfolding valueOf
-words-take n b h = getBits-take (start lengthWords) (width lengthWords) n b (omega arith)
+words-take n b h = getBits-take (start lengthWords) (bitWidth lengthWords) n b (omega arith)
 
 -- ## what no refusal tells
 

@@ -12,7 +12,7 @@ use Rattle.bits.specs.Bits.{bitAt, getBits}
 use Rattle.bits.specs.Decimal.{digits}
 use Rattle.bits.proofs.Bits.{num-ext}
 use Rattle.fields.specs.declared.Field.{Field}
-use Rattle.fields.specs.Field.{start, width, isDecimal, digitCount, decoded, valueOf, digitsGood}
+use Rattle.fields.specs.Field.{start, bitWidth, isDecimal, digitCount, decoded, valueOf, digitsGood}
 use Rattle.fields.specs.Table.{readAll, allDigitsGood, valueIn, sound}
 use Rattle.fields.proofs.Tables.{sound-inside, sound-rest}
 use Rattle.header.specs.Format.{headerBytes, fields1985}
@@ -41,7 +41,7 @@ module _ (n : ℕ) (a b : List ℕ) (same : take n a ≡ take n b) where
   unfolding valueOf
   same-values [] t = refl
   same-values (f ∷ fs) t =
-      let e = same-bits (start f) (width f) (sound-inside (8 * n) f fs t) in
+      let e = same-bits (start f) (bitWidth f) (sound-inside (8 * n) f fs t) in
       let r = same-values fs (sound-rest (8 * n) f fs t) in
       λ i. decoded f (e i) ∷ r i
 
@@ -49,7 +49,7 @@ module _ (n : ℕ) (a b : List ℕ) (same : take n a ≡ take n b) where
   unfolding digitsGood
   same-digits [] t = refl
   same-digits (f ∷ fs) t =
-      let e = same-bits (start f) (width f) (sound-inside (8 * n) f fs t) in
+      let e = same-bits (start f) (bitWidth f) (sound-inside (8 * n) f fs t) in
       let r = same-digits fs (sound-rest (8 * n) f fs t) in
       λ i. (not (isDecimal f) || digits (digitCount f) (e i)) && r i
 

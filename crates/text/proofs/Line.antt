@@ -10,7 +10,7 @@ use lib.Signed.{mag}
 use lib.ListN.{length, length-append}
 use Rattle.numbers.specs.Number.{ascii, digitsIn, decimalText, places, fixed, signedFixed}
 use Rattle.text.specs.declared.Columns.{Columns}
-use Rattle.text.specs.Text.{headerLine, recordLine, refusedLine, lineOf}
+use Rattle.text.specs.Text.{headerLine, recordLine, refusedLine, lineLength}
 use Rattle.numbers.proofs.Decimal.{decimal-length}
 use Rattle.numbers.proofs.Places.{fixed-parts}
 use Rattle.numbers.proofs.Signs.{natAbs-mag}
@@ -35,7 +35,7 @@ pub record Digits (c : Columns) (n t o f r : ℕ) : Type 0 where
   pub rate : natAbs (c .«frequency_rate_units») < 10 ^ r * 10 ^ 5
 
 pub line-within : (c : Columns) (n t o f r : ℕ) → 0 < n → 0 < t → 0 < o → 0 < f → 0 < r → Digits c n t o f r
-    → length (recordLine c) ≤ lineOf n t o f r
+    → length (recordLine c) ≤ lineLength n t o f r
 unfolding recordLine
 line-within c n t o f r pn pt po pf pr d =
     let hn = decimal-length n (c .number) pn (d .number) in
@@ -48,7 +48,7 @@ line-within c n t o f r pn pt po pf pr d =
 
 -- of numbers of 64 bits
 abbrev pub longestOfWords : ℕ
-longestOfWords = lineOf 20 20 20 14 14
+longestOfWords = lineLength 20 20 20 14 14
 
 pub word-line : (c : Columns) → c .number < 2 ^ 64 → c .«first_us» < 2 ^ 64 → c .origin < 2 ^ 64 → c .«frequency_uhz» < 2 ^ 64
     → mag (c .«frequency_rate_units») < 2 ^ 63 → length (recordLine c) ≤ longestOfWords
@@ -73,7 +73,7 @@ longest : length (recordLine (record {
   origin = 1;
   «frequency_uhz» = 99999999999999;
   «frequency_rate_units» = negsuc 999989999999;
-})) ≡ lineOf 5 11 1 8 7
+})) ≡ lineLength 5 11 1 8 7
 unfolding recordLine signedFixed fixed places decimalText digitsIn
 longest = refl
 

@@ -33,5 +33,5 @@ refusedLine number = ascii "refused," ++ (decimalText number ++ ascii "\n")
 
 -- the length of a record's line whose number, time and origin have n, t and o digits, whose frequency has f before the point and
 -- whose rate has a minus and r before the point; behind each column stands a comma or the line feed
-abbrev pub lineOf : ℕ → ℕ → ℕ → ℕ → ℕ → ℕ
-lineOf n t o f r = (n + 1) + (t + 1) + (o + 1) + (f + 1 + 6 + 1) + (1 + r + 1 + 5 + 1)
+abbrev pub lineLength : ℕ → ℕ → ℕ → ℕ → ℕ → ℕ
+lineLength n t o f r = (n + 1) + (t + 1) + (o + 1) + (f + 1 + 6 + 1) + (1 + r + 1 + 5 + 1)

@@ -7,7 +7,7 @@ use native.Mathlib.Nat.{mod-eq-of-lt}
 use lib.Ieee.{Float}
 use lib.Ieee.Exact.{HasValue}
 use Rattle.fields.specs.declared.Field.{Field}
-use Rattle.fields.specs.Field.{isDecimal, width, valueOf}
+use Rattle.fields.specs.Field.{isDecimal, bitWidth, valueOf}
 use Rattle.fields.proofs.OneField.{value-lt}
 use Rattle.phase.specs.Phase.{fractionBits, phaseOf}
 
@@ -15,7 +15,7 @@ abbrev Exact : Float → ℕ → Type 0
 Exact x count = (x ≡ phaseOf fractionBits count) × HasValue x false count (2 ^ fractionBits)
 
 -- the cycles of what a field of 48 bits holds
-pub exactly : (f : Field) (b : List ℕ) → isDecimal f ≡ false → width f ≡ 48 → (x : Float) (count : ℕ) → count ≡ valueOf f b
+pub exactly : (f : Field) (b : List ℕ) → isDecimal f ≡ false → bitWidth f ≡ 48 → (x : Float) (count : ℕ) → count ≡ valueOf f b
     → Exact x (count % 2 ^ 48) → Exact x (valueOf f b)
 exactly f b binary wide x count e =
     subst (Exact x)

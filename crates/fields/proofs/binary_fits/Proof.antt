@@ -9,7 +9,7 @@ unfolding fitsBinary
 returns c =
     let fit = c .before in
     let a = fit .before .args in
-    λ i. (not (c .is-readable .ensures i) || (isDecimal (a .f) || fit .bits-fit .ensures i)) && a .rest
+    λ i. (not (c .is-readable .ensures i) || (isDecimal (a .f) || fit .fits-bits .ensures i)) && a .rest
 
 pub binary-fits-spec : {M : Type 1} → statement M
 binary-fits-spec = tie.close (tie.spec (λ c κs. search needs) (λ c κs. search needs) returns)

@@ -3,7 +3,7 @@ use mathlib.Core.Path.{sym, subst, _∙_}
 use denote.Ref.{now}
 use mir.Syntax.{w64}
 use mir.ValLaws.{toZ-ofZ}
-use Rattle.frequency_rate.specs.FrequencyRate.{mostDigits, frequencyRateUnits, frequencyRateOf}
+use Rattle.frequency_rate.specs.FrequencyRate.{digitsBelow, frequencyRateUnits, frequencyRateOf}
 use Rattle.frequency_rate.proofs.Signs.{digits-small, power-small}
 use borrow.Author.Needs.{needs}
 use Rattle.frequency_rate.proofs.frequency_rate_of.Statement.{statement}
@@ -14,7 +14,7 @@ frequency-rate-units-requires c κs =
     let p = c .before in
     let d = p .before in
     let b = now (d .before .before .args .bytes) in (
-      subst (λ (n : ℕ). n < mostDigits) (sym (d .read-field .ensures)) (digits-small b),
+      subst (λ (n : ℕ). n < digitsBelow) (sym (d .read-field .ensures)) (digits-small b),
       subst (λ (n : ℕ). n < 8) (sym (p .read-field2 .ensures)) (power-small b),
     )
 

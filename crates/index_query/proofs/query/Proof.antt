@@ -12,7 +12,7 @@ returns : tie.Need-returns
 returns c =
     let j = c .before .before .before .before in
     let a = j .before .before .before .args in
-    let place = c .before .before .place-of .ensures in (
+    let place = c .before .before .window-place .ensures in (
       c .second-from .ensures .0
           ∙ (λ t. accepted (secondShown (a .o) (c .before .block .ensures t)))
           ∙ (λ t. accepted (secondShown (a .o) (blockOrNone (a .seconds .now) (place t))))

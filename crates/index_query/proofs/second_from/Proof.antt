@@ -13,7 +13,7 @@ returns c =
     let totals = c .before .before in
     let a = totals .before .before .args in
     let channels = totals .totals-from .ensures .0
-    ∙ (λ t. tab (totalFrom (totals .before .sample-count .ensures .0 t) (a .t2)) 1 4) in (
+    ∙ (λ t. tab (totalFrom (totals .before .samples-in-records .ensures .0 t) (a .t2)) 1 4) in (
       λ t. accepted (
           record {
             records = getD (a .t2) 0 0;

@@ -13,7 +13,7 @@ returns c =
       r .replace-row .ensures .0,
       c .before .before .join-second .ensures
           ∙ (λ t. join (w .row-within .ensures t) (r .replace-row .ensures .1 t)
-          (c .before .before .before .before .place-of .ensures t) (a .row)),
+          (c .before .before .before .before .window-place .ensures t) (a .row)),
     )
 
 pub insert-row-spec : {M : Type 1} → statement M

@@ -28,7 +28,7 @@ returns c =
     let seconds = own .before .before .before .before .args .seconds .now in
     λ t.
     leb (c .before .full-count .ensures t + (own .one-if .ensures .0 ∙ ap flag (own .before .row-within .ensures)) t)
-    ((c .wide .ensures .0 ∙ records .read-cell .ensures ∙ (λ u. cell seconds (records .before .place-of .ensures u) 0)) t)
+    ((c .wide .ensures .0 ∙ records .read-cell .ensures ∙ (λ u. cell seconds (records .before .window-place .ensures u) 0)) t)
 
 pub is-full-spec : {M : Type 1} → statement M
 is-full-spec =

@@ -14,7 +14,7 @@ returns c =
     let w = l .before .wide in
     let a = l .before .before .before .before in
     c .before .before .put-block .ensures
-    ∙ (λ t. blockPut (a .args .seconds .now) (p .place-of .ensures t) (s .second-cells .ensures t))
+    ∙ (λ t. blockPut (a .args .seconds .now) (p .window-place .ensures t) (s .second-cells .ensures t))
     ∙ second-left (a .args .o) (a .args .rows .now) (a .args .held) (w .result) (a .args .seconds .now) (a .pre)
     (sym (l .is-left .ensures) ∙ s .before .if1 .taken)
     ∙ (λ t. leave (a .args .o) (a .args .rows .now) (a .args .held) (w .ensures .0 t) (a .args .seconds .now))

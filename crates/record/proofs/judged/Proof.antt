@@ -31,7 +31,7 @@ returns c =
       day = c8 .read-field8 .ensures i;
       «time_tag» = c9 .read-field9 .ensures i;
       «readback_tag» = c10 .read-field10 .ensures i;
-      decimals = digits .digits-good .ensures i;
+      decimals = digits .all-digits-good .ensures i;
       «clock_origin» = c11 .read-field11 .ensures i;
       sync = c .read-field12 .ensures i;
     }

@@ -3,8 +3,8 @@ use native.Mathlib.Omega.{arith}
 use Rattle.sample_rates.specs.Rates.{samplesPerRecord}
 use Rattle.index_query.proofs.Decoding.{count-most}
 use borrow.Author.Needs.{needs}
-use Rattle.index_query.proofs.sample_count.Statement.{statement}
-use Rattle.index_query.proofs.sample_count.Tie as tie
+use Rattle.index_query.proofs.samples_in_records.Statement.{statement}
+use Rattle.index_query.proofs.samples_in_records.Tie as tie
 
 mul-result : tie.Need-mul-result
 mul-result c =
@@ -18,5 +18,5 @@ returns c =
       count-most (c .before .wide .result) _ (rate .result) (rate .ensures) (search needs),
     )
 
-pub sample-count-spec : {M : Type 1} → statement M
-sample-count-spec = tie.close (tie.spec (λ c κs. search needs) (λ c κs. search needs) mul-result returns)
+pub samples-in-records-spec : {M : Type 1} → statement M
+samples-in-records-spec = tie.close (tie.spec (λ c κs. search needs) (λ c κs. search needs) mul-result returns)

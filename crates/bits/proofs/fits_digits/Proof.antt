@@ -5,8 +5,8 @@ use native.Mathlib.Nat.{div-one, div-div-eq-div-mul}
 use lib.Dec.{eqb}
 use Rattle.bits.proofs.Decimal.{ten-more, none-left}
 use borrow.Author.Needs.{needs}
-use Rattle.bits.proofs.decimal_fits.Statement.{statement}
-use Rattle.bits.proofs.decimal_fits.Tie as tie
+use Rattle.bits.proofs.fits_digits.Statement.{statement}
+use Rattle.bits.proofs.fits_digits.Tie as tie
 
 abbrev Inv-loop : tie.InvT-loop
 Inv-loop count value rest₀ k₀ rest k = (k ≤ count) × (rest ≡ value / 10 ^ k)
@@ -33,6 +33,6 @@ returns c =
     let done : l .loop .k ≡ a .count = search needs in
     ap (λ (z : ℕ). eqb z 0) (l .loop .inv .1 ∙ ap (λ (z : ℕ). a .value / 10 ^ z) done) ∙ none-left (a .value) (a .count)
 
-pub decimal-fits-spec : {M : Type 1} → statement M
-decimal-fits-spec =
+pub fits-digits-spec : {M : Type 1} → statement M
+fits-digits-spec =
     tie.close (tie.spec Inv-loop μ-loop loop-holds (λ c. search needs) (λ c. search needs) loop-again returns)
