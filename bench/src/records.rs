@@ -17,6 +17,7 @@ const RECORDS: usize = 10_000;
 const HALF: usize = RECORDS / 2;
 const TOTALS: Goal = Goal { most: 1.0, limit: Some(1.5) };
 const HEADER: Goal = Goal { most: 1.5, limit: None };
+const WRITING: Goal = Goal { most: 3.0, limit: Some(8.0) };
 
 /// Records of one reel, OP-B at 50,000 samples a second, in one piece of memory. Their samples are random, and so are their
 /// fields but for those of the reel.
@@ -92,7 +93,7 @@ fn measure_writing(pool: &mut Pool) {
     for (kind, step) in [("hot", 0), ("distinct", 1)] {
         let library = |i: usize| odr::write_header(nth(ours, i, step), black_box(&values));
         let rust = |i: usize| write::write_header(nth(theirs, i, step), black_box(&header));
-        row(&format!("header written, 46 numbers, {kind}"), &versus(library, rust), None);
+        row(&format!("header written, 46 numbers, {kind}"), &versus(library, rust), Some(WRITING));
     }
 }
 
