@@ -1,6 +1,6 @@
 -- What comes back across the boundary to C and Rust (c/odr.h), for each case of an answer: beside a refusal 0 throughout.
 -- FORMAT, "Refusal numbers".
-use Prim.Native.Nat.{ℕ}
+use Prim.Native.Nat.{ℕ, _*_}
 use mathlib.Core.Bool.{false}
 use lib.IntN.{pos}
 use lib.Ieee.{Float, fin}
@@ -13,6 +13,7 @@ use Rattle.listing.specs.declared.ListAnswer.{ListAnswer}
 use Rattle.listing.specs.declared.ListAnswer.the-variants as ListAnswer
 use Rattle.frequency_rate.specs.declared.FrequencyRateAnswer.{FrequencyRateAnswer}
 use Rattle.frequency_rate.specs.declared.FrequencyRateAnswer.the-variants as FrequencyRateAnswer
+use Rattle.monitor.specs.Segments.{mostWords}
 use Rattle.reel.specs.declared.Step.{Step}
 use Rattle.reel.specs.declared.Step.the-variants as Step
 use Rattle.times.specs.declared.TimeAnswer.{TimeAnswer}
@@ -65,4 +66,4 @@ textOut (ListAnswer.Refused n) = record { refusal = n; length = 0 }
 
 -- the bytes that a segment's answer has room for: no segment is longer (proofs/Segment)
 abbrev pub longestSegment : ℕ
-longestSegment = 90
+longestSegment = 2 * mostWords

@@ -6,10 +6,11 @@ use lib.IntN.{pos}
 use lib.Ieee.{binary64, ofInt, div}
 use borrow.Author.Tests.{eq-eqb, ne-eqb}
 use Rattle.totals.specs.declared.Total.{Total}
-use Rattle.index_query.specs.Exact.{exactLimit, ExactTotal}
+use Rattle.floats.specs.Whole.{exactLimit, quotientOf}
+use Rattle.floats.proofs.Quotient.{whole-quotient}
+use Rattle.index_query.specs.Exact.{ExactTotal}
 use Rattle.index_means.specs.declared.Means.{Means}
-use Rattle.index_means.specs.Means.{quotientOf, noMeans, meansOf}
-use Rattle.index_means.proofs.Quotient.{whole-quotient}
+use Rattle.index_means.specs.Means.{noMeans, meansOf}
 
 pub means-none : (total : Total) (count : ℕ) → count ≡ 0 → meansOf total count ≡ noMeans
 unfolding meansOf

@@ -1,3 +1,2 @@
-pub mod Quotient
 pub mod Dividing
 pub mod History

@@ -1,11 +1,12 @@
 -- The mean and the mean square of each channel of a second, each one division of two whole numbers held exactly; both are 0 for
 -- no samples. FORMAT, "The index of seconds". A question about them is refused as one about the second's totals is: 13, 14, 17.
-use Prim.Native.Nat.{ℕ, suc, _*_}
-use mathlib.Core.Bool.{true, false, cond}
+use Prim.Native.Nat.{ℕ, _*_}
+use mathlib.Core.Bool.{false, cond}
 use mathlib.Core.List.{List, [], _∷_, map}
 use lib.Dec.{eqb}
-use lib.IntN.{ℤ, pos, negsuc}
-use lib.Ieee.{Float, fin, binary64, round}
+use lib.IntN.{pos}
+use lib.Ieee.{fin}
+use Rattle.floats.specs.Whole.{quotientOf}
 use Rattle.sample_rates.specs.Rates.{sampleRateOf, samplesPerRecord}
 use Rattle.answers.specs.Answer.{Answer, unless}
 use Rattle.totals.specs.declared.Total.{Total}
@@ -14,11 +15,6 @@ use Rattle.index_model.specs.Second.{SecondTotals}
 use Rattle.index_model.specs.Buffers.{Buffers}
 use Rattle.index_model.specs.Calls.{queryAnswer}
 use Rattle.index_means.specs.declared.Means.{Means}
-
--- a whole number over a count above 0: the 64-bit float nearest to the exact quotient, rounded once (negsuc a is -1 - a)
-unfoldable pub quotientOf : ℤ → ℕ → Float
-quotientOf (pos a) count = round binary64 false a count
-quotientOf (negsuc a) count = round binary64 true (suc a) count
 
 -- both 0
 abbrev pub noMeans : Means

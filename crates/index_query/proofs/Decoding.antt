@@ -21,7 +21,8 @@ use Rattle.index_model.specs.Cells.{cellLimit, sampleOffset}
 use Rattle.index_model.specs.Calls.{channelShown, totalFrom}
 use Rattle.index_model.proofs.Differences.{minus-sub}
 use Rattle.index_query.specs.Inner.{sampleLimit}
-use Rattle.index_query.specs.Exact.{exactLimit, ExactTotal}
+use Rattle.floats.specs.Whole.{exactLimit}
+use Rattle.index_query.specs.Exact.{ExactTotal}
 
 -- ## counts
 

@@ -1,15 +1,12 @@
 -- Numbers that a 64-bit float holds exactly. On any cells whatever, the totals of a second are such numbers, so that a mean is
 -- one division of two of them. FORMAT, "The index of seconds".
-use Prim.Native.Nat.{ℕ, _^_, _≤_}
+use Prim.Native.Nat.{_≤_}
 use mathlib.Core.List.{List}
 use lib.IntN.{natAbs}
 use lib.ListN.{getD}
+use Rattle.floats.specs.Whole.{exactLimit}
 use Rattle.totals.specs.declared.Total.{Total}
 use Rattle.totals.specs.Total.{noTotal}
-
--- a 64-bit float holds every whole number up to 2^53, of either sign
-abbrev pub exactLimit : ℕ
-exactLimit = 2 ^ 53
 
 -- the two numbers of a channel's total that means divide
 pub record ExactTotal (t : Total) : Type 0 where

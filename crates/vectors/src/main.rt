@@ -5,9 +5,12 @@ use index_model::WIDTH;
 use index_open::OpenAnswer;
 use libc::STDOUT_FILENO;
 
+// Bytes of the lister's case: 390 words.
+const CASE_BYTES: usize = 780;
+
 // A word of the record, counted from 1, gets its value.
-fn set_word(bytes: &mut [u8; 780], word: usize, value: u16) {
-    if word > 390 {
+fn set_word(bytes: &mut [u8; CASE_BYTES], word: usize, value: u16) {
+    if word > CASE_BYTES / 2 {
         return;
     }
     if word == 0 {
@@ -19,8 +22,8 @@ fn set_word(bytes: &mut [u8; 780], word: usize, value: u16) {
 }
 
 // The lister's case: an accepted record of 390 words at 200 samples a second.
-fn lister_case() -> [u8; 780] {
-    let mut bytes = [0u8; 780];
+fn lister_case() -> [u8; CASE_BYTES] {
+    let mut bytes = [0u8; CASE_BYTES];
     set_word(&mut bytes, 1, 0x8101);
     set_word(&mut bytes, 2, 0x0001);
     set_word(&mut bytes, 3, 0x0186);
@@ -41,7 +44,7 @@ fn print_line(asked: &[u8], number: u8) {
     io::write_all(STDOUT_FILENO, b"\n");
 }
 
-fn refusal_of(bytes: &[u8; 780]) -> u8 {
+fn refusal_of(bytes: &[u8; CASE_BYTES]) -> u8 {
     record::refusal_of(bytes)
 }
 
@@ -73,7 +76,7 @@ fn print_puts(o: Opening, rows: &mut [u32; 3 * WIDTH], seconds: &mut [u32; WIDTH
 
 fn put_again(
     o: Opening,
-    bytes: &[u8; 780],
+    bytes: &[u8; CASE_BYTES],
     rows: &mut [u32; 3 * WIDTH],
     seconds: &mut [u32; WIDTH],
 ) -> u8 {

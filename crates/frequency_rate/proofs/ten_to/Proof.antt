@@ -1,16 +1,13 @@
 -- A power of ten by a loop. Assumes nothing.
 use mathlib.Core.Path.{_≡_, refl, ap, _∙_}
 use Prim.Native.Nat.{ℕ, _+_, _*_, _-_, _^_, _≤_}
-use native.Mathlib.Nat.{pow-suc, pow-le-pow-right}
-use native.Mathlib.Numerals.{add-one}
+use native.Mathlib.Nat.{pow-le-pow-right}
 use native.Mathlib.Omega.{arith}
 use lib.Dec.{lit<}
+use Rattle.bits.proofs.Decimal.{ten-more}
 use borrow.Author.Needs.{needs}
 use Rattle.frequency_rate.proofs.ten_to.Statement.{statement}
 use Rattle.frequency_rate.proofs.ten_to.Tie as tie
-
-power-more : (k : ℕ) → 10 ^ (k + 1) ≡ 10 ^ k * 10
-power-more k = ap (λ (n : ℕ). 10 ^ n) (add-one k) ∙ pow-suc 10 k
 
 seven-at-most : (k : ℕ) → k ≤ 7 → 10 ^ k ≤ 10000000
 seven-at-most k h = pow-le-pow-right {n = 10} (lit< tt) {i = k} {j = 7} h
@@ -34,7 +31,7 @@ loop-less : tie.Need-loop-less Inv-loop μ-loop
 loop-less c = search needs
 
 loop-again : tie.Need-loop-again Inv-loop μ-loop
-loop-again c = (search needs, omega (arith, power-more (c .before .loop .k)))
+loop-again c = (search needs, omega (arith, ten-more (c .before .loop .k)))
 
 returns : tie.Need-returns Inv-loop μ-loop
 returns c = let e : c .before .loop .k ≡ c .before .before .args .power = omega arith in (c .before .loop .inv .1 ∙ ap (λ (n : ℕ). 10 ^ n) e, omega (arith, seven-at-most (c .before .loop .k) (omega arith)))

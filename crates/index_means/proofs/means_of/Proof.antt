@@ -6,7 +6,7 @@ use mir.Syntax.{w64}
 use mir.Val.{toZ, ofZ}
 use mir.ValLaws.{toZ-ofZ}
 use borrow.Author.Needs.{needs}
-use Rattle.index_means.proofs.Quotient.{cast-exact}
+use Rattle.floats.proofs.Quotient.{cast-exact}
 use Rattle.index_means.proofs.Dividing.{means-none, divided}
 use Rattle.index_means.proofs.means_of.Statement.{statement}
 use Rattle.index_means.proofs.means_of.Tie as tie

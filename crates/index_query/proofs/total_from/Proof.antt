@@ -5,7 +5,7 @@ use mir.Syntax.{w8, w64}
 use mir.ValLaws.{toZ-ofZ}
 use Rattle.index_model.specs.Cells.{sampleOffset}
 use Rattle.index_model.specs.Calls.{leastFrom, greatestFrom}
-use Rattle.index_query.specs.Exact.{exactLimit}
+use Rattle.floats.specs.Whole.{exactLimit}
 use Rattle.index_query.proofs.Decoding.{none-read, some-read}
 use borrow.Author.Needs.{needs}
 use Rattle.index_query.proofs.total_from.Statement.{statement}

@@ -1,16 +1,17 @@
 -- The count is converted and divided with nothing lost. Assumes nothing.
 use Prim.Native.Nat.{_%_, _^_}
 use native.Mathlib.Omega.{arith}
-use lib.Dec.{lit≤, le→leb}
-use lib.Ieee.{ofBits, inFloat}
+use lib.Dec.{lit≤}
+use lib.IntN.{pos}
+use lib.Ieee.{ofBits}
+use Rattle.floats.proofs.Quotient.{cast-exact}
 use Rattle.phase.specs.Phase.{fractionBits}
 use Rattle.phase.proofs.Quotient.{of-count}
 use Rattle.phase.proofs.cycles.Statement.{statement}
 use Rattle.phase.proofs.cycles.Tie as tie
 
 int-to-float-result : tie.Need-int-to-float-result
-unfolding inFloat
-int-to-float-result c = le→leb (c .before .args .count % 2 ^ 48) (2 ^ 53) (omega arith)
+int-to-float-result c = cast-exact (pos (c .before .args .count % 2 ^ 48)) (omega arith)
 
 returns : tie.Need-returns
 unfolding ofBits

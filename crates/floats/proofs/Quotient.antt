@@ -12,8 +12,7 @@ use lib.Ieee.Exact.{HasValue}
 use lib.Ieee.Back.{round-whole}
 use lib.Ieee.Scale.{round-same}
 use lib.Ieee.Fits.{down-pos}
-use Rattle.index_query.specs.Exact.{exactLimit}
-use Rattle.index_means.specs.Means.{quotientOf}
+use Rattle.floats.specs.Whole.{exactLimit, quotientOf}
 
 -- a divisor that is worth b, above 0, has digits
 digits : (n b u d : ℕ) → n * u * 1 ≡ b * d → 0 < b * d → 0 < n * u
@@ -27,7 +26,7 @@ unlike-false true = refl
 unlike-false false = refl
 
 -- x is the whole number a with the sign s, and y is b, above 0
-div-value : (x y : Float) (s : Bool) (a b : ℕ) → 0 < b → HasValue x s a 1 → HasValue y false b 1
+pub div-value : (x y : Float) (s : Bool) (a b : ℕ) → 0 < b → HasValue x s a 1 → HasValue y false b 1
     → div binary64 x y ≡ round binary64 s a b
 unfolding div
 div-value nan y s a b p v w = absurd v
