@@ -28,7 +28,8 @@ then-zero n m e = by-test (eqb n 0) refl e
 
 -- a struct with a refusal's number gives no value
 pub told-none : {A : Type 0} (n : ℕ) (empty : A) → 1 ≤ n → told n empty ≡ refused empty n
-told-none {A} n empty above = ap (λ (t : Bool). record { number = n; value = empty; given = t }) (ne-eqb n 0 (λ z. omega (arith, z)))
+told-none {A} n empty above = ap (λ (t : Bool). record { number = n; value = empty; given = t })
+    (ne-eqb n 0 (λ z. omega (arith, z)))
 
 module _ {A : Type 0} (n : ℕ) (empty v : A) where
   pub unless-none : n ≡ 0 → accepted v ≡ unless n empty v

@@ -36,7 +36,8 @@ num-add f s a zero = ap (num f s) (add-zero a) ∙ omega arith
 num-add f s a (suc b) =
     let e : num f s (a + b) ≡ num f s a * 2 ^ b + num f (s + a) b = num-add f s a b in
     let x : f (s + (a + b)) ≡ f (s + a + b) = ap f (sym (add-assoc s a b)) in
-    let p : num f s a * 2 ^ suc b ≡ (num f s a * 2 ^ b) * 2 = ap (λ (z : ℕ). num f s a * z) (pow-suc 2 b) ∙ sym (mul-assoc (num f s a) (2 ^ b) 2) in
+    let p : num f s a * 2 ^ suc b ≡ (num f s a * 2 ^ b) * 2 = ap (λ (z : ℕ). num f s a * z) (pow-suc 2 b)
+    ∙ sym (mul-assoc (num f s a) (2 ^ b) 2) in
     ap (num f s) (add-suc a b) ∙ omega (arith, e, x, p)
 
 module _ (f : ℕ → ℕ) (h : (i : ℕ) → f i < 2) where
@@ -93,14 +94,16 @@ getD-from : (f : ℕ → ℕ) (k n i : ℕ) → i < n → getD (bytesOf f k n) i
 unfolding bytesOf
 getD-from f k zero i h = absurd (not-suc-le-zero h)
 getD-from f k (suc n) zero h = ap (λ (z : ℕ). num f (8 * z) 8) (sym (add-zero k))
-getD-from f k (suc n) (suc i) h = getD-from f (suc k) n i (le-of-suc-le-suc h) ∙ ap (λ (z : ℕ). num f (8 * z) 8) (suc-add k i ∙ sym (add-suc k i))
+getD-from f k (suc n) (suc i) h = getD-from f (suc k) n i (le-of-suc-le-suc h)
+    ∙ ap (λ (z : ℕ). num f (8 * z) 8) (suc-add k i ∙ sym (add-suc k i))
 
 pub getD-bytesOf : (f : ℕ → ℕ) (n i : ℕ) → i < n → getD (bytesOf f 0 n) i 0 ≡ num f (8 * i) 8
 getD-bytesOf f n i h = getD-from f 0 n i h ∙ ap (λ (z : ℕ). num f (8 * z) 8) (zero-add i)
 
 pub bitAt-past : (b : List ℕ) (i : ℕ) → 8 * length b ≤ i → bitAt b i ≡ 0
 unfolding bitAt
-bitAt-past b i h = ap (λ (z : ℕ). z / 2 ^ (7 - i % 8) % 2) (List·getD-eq-default b 0 (omega arith)) ∙ ap (λ (z : ℕ). z % 2) (zero-div (2 ^ (7 - i % 8)))
+bitAt-past b i h = ap (λ (z : ℕ). z / 2 ^ (7 - i % 8) % 2) (List·getD-eq-default b 0 (omega arith))
+    ∙ ap (λ (z : ℕ). z % 2) (zero-div (2 ^ (7 - i % 8)))
 
 -- the bits of the bytes of f are f
 pub bitAt-bytesOf : (f : ℕ → ℕ) → ((i : ℕ) → f i < 2) → (n i : ℕ) → i < 8 * n → bitAt (bytesOf f 0 n) i ≡ f i
@@ -126,7 +129,8 @@ byte-num b k h =
 pub bytesOf-bitAt : (b : List ℕ) → ((k : ℕ) → getD b k 0 < 256) → bytesOf (bitAt b) 0 (length b) ≡ b
 bytesOf-bitAt b h =
     ext-getD 0 (bytesOf (bitAt b) 0 (length b)) b (length-bytesOf (bitAt b) 0 (length b))
-    (λ i q. let q' : i < length b = omega (arith, length-bytesOf (bitAt b) 0 (length b)) in getD-bytesOf (bitAt b) (length b) i q' ∙ byte-num b i (h i))
+    (λ i q. let q' : i < length b = omega (arith, length-bytesOf (bitAt b) 0 (length b)) in getD-bytesOf (bitAt b) (length b) i q'
+    ∙ byte-num b i (h i))
 
 -- ## one field put
 
@@ -230,7 +234,8 @@ get-other s w v t u b o =
 -- put after get
 pub set-get : (s w : ℕ) (b : List ℕ) → ((k : ℕ) → getD b k 0 < 256) → setBits s w (getBits s w b) b ≡ b
 unfolding getBits setBits
-set-get s w b h = bytesOf-ext (put s w (num (bitAt b) s w) (bitAt b)) (bitAt b) (put-same s w (bitAt b) (bitAt-lt b)) 0 (length b) ∙ bytesOf-bitAt b h
+set-get s w b h = bytesOf-ext (put s w (num (bitAt b) s w) (bitAt b)) (bitAt b) (put-same s w (bitAt b) (bitAt-lt b)) 0 (length b)
+    ∙ bytesOf-bitAt b h
 
 -- the result is bytes
 pub set-byte : (s w v : ℕ) (b : List ℕ) (k : ℕ) → getD (setBits s w v b) k 0 < 256
@@ -238,6 +243,7 @@ unfolding setBits
 set-byte s w v b k =
     let f : ℕ → ℕ = put s w v (bitAt b) in
     ⊎-elim
-    (λ past. rw (List·getD-eq-default (bytesOf f 0 (length b)) 0 {n = k} (omega (arith, length-bytesOf f 0 (length b)))) (lit< tt))
+    (λ past. rw (List·getD-eq-default (bytesOf f 0 (length b)) 0 {n = k} (omega (arith, length-bytesOf f 0 (length b))))
+    (lit< tt))
     (λ inside. rw (getD-bytesOf f (length b) k inside) (num-lt f (put-lt s w v (bitAt b) (bitAt-lt b)) (8 * k) 8))
     (le-or-lt (length b) k)

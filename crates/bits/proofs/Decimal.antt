@@ -24,7 +24,11 @@ unfolding decimalValue digits
 decimal-lt zero v t = lit< tt
 decimal-lt (suc n) v t =
     rw pow-suc
-    (omega (arith, decimal-lt n (v / 16) (left (digits n (v / 16)) (leb (v % 16) 9) t), leb→le (v % 16) 9 (right (digits n (v / 16)) (leb (v % 16) 9) t)))
+    (omega (
+      arith,
+      decimal-lt n (v / 16) (left (digits n (v / 16)) (leb (v % 16) 9) t),
+      leb→le (v % 16) 9 (right (digits n (v / 16)) (leb (v % 16) 9) t),
+    ))
 
 pub coded-lt : (n x : ℕ) → coded n x < 16 ^ n
 unfolding coded
@@ -64,7 +68,8 @@ coded-decimal (suc n) v h t =
     let d : v % 16 ≤ 9 = leb→le (v % 16) 9 (right (digits n (v / 16)) (leb (v % 16) 9) t) in
     let q : (decimalValue n (v / 16) * 10 + v % 16) / 10 ≡ decimalValue n (v / 16) = omega arith in
     let r : (decimalValue n (v / 16) * 10 + v % 16) % 10 ≡ v % 16 = omega arith in
-    let e : coded n (decimalValue n (v / 16)) ≡ v / 16 = coded-decimal n (v / 16) (omega (arith, p)) (left (digits n (v / 16)) (leb (v % 16) 9) t) in
+    let e : coded n (decimalValue n (v / 16)) ≡ v / 16 = coded-decimal n (v / 16) (omega (arith, p))
+    (left (digits n (v / 16)) (leb (v % 16) 9) t) in
     let f : coded n ((decimalValue n (v / 16) * 10 + v % 16) / 10) ≡ coded n (decimalValue n (v / 16)) = ap (coded n) q in
     omega (arith, e, f, r)
 
@@ -79,7 +84,8 @@ none-left x n =
     let some : 0 < 10 ^ n = pow-le-pow-right {n = 10} (lit< tt) {i = 0} {j = n} (omega arith) in
     let below = div-lt-iff-lt-mul {k = 10 ^ n} {x = x} {y = 1} some in
     ⊎-elim
-    (λ p. ne-eqb (x / 10 ^ n) 0 (λ z. let q : x < 1 * 10 ^ n = below .0 (omega (arith, z)) in omega (arith, one-mul (10 ^ n))) ∙ sym (le-ltb x (10 ^ n) p))
+    (λ p. ne-eqb (x / 10 ^ n) 0 (λ z. let q : x < 1 * 10 ^ n = below .0 (omega (arith, z)) in omega (arith, one-mul (10 ^ n)))
+    ∙ sym (le-ltb x (10 ^ n) p))
     (λ p. eq-eqb _ _ (div-eq-of-lt p) ∙ sym (lt-ltb x (10 ^ n) p))
     (le-or-lt (10 ^ n) x)
 

@@ -10,7 +10,8 @@ use Rattle.bits.specs.Bits.{bitAt, num, getBits}
 use Rattle.bits.proofs.Bits.{num-add, num-mid, byte-num, bitAt-lt, getBits-lt}
 
 -- one byte more
-pub more : (a k : ℕ) (b : List ℕ) → getD b (a + k) 0 < 256 → getBits (8 * a) (8 * (k + 1)) b ≡ getBits (8 * a) (8 * k) b * 256 + getD b (a + k) 0
+pub more : (a k : ℕ) (b : List ℕ) → getD b (a + k) 0 < 256
+    → getBits (8 * a) (8 * (k + 1)) b ≡ getBits (8 * a) (8 * k) b * 256 + getD b (a + k) 0
 unfolding getBits
 more a k b h =
     let e : 8 * (k + 1) ≡ 8 * k + 8 = omega arith in
@@ -27,7 +28,8 @@ pub none : (s : ℕ) (b : List ℕ) → getBits s 0 b ≡ 0
 none s b = omega (arith, getBits-lt s 0 b)
 
 -- a field in its window
-pub cut : (s w n : ℕ) (b : List ℕ) → s % 8 + w ≤ 8 * n → getBits (8 * (s / 8)) (8 * n) b / 2 ^ (n * 8 - (s % 8 + w)) % 2 ^ w ≡ getBits s w b
+pub cut : (s w n : ℕ) (b : List ℕ) → s % 8 + w ≤ 8 * n
+    → getBits (8 * (s / 8)) (8 * n) b / 2 ^ (n * 8 - (s % 8 + w)) % 2 ^ w ≡ getBits s w b
 unfolding getBits
 cut s w n b h =
     let c : ℕ = n * 8 - (s % 8 + w) in

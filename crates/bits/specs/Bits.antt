@@ -1,5 +1,6 @@
--- Bits of a run of bytes, and a field of them as a number. FORMAT, "The record": "Words are 16 bits, bit 1 the most significant; a word is
--- stored high byte first": so the bits of a record, counted from 0, run on through its bytes, the most significant first.
+-- Bits of a run of bytes, and a field of them as a number. FORMAT, "The record": "Words are 16 bits, bit 1 the most
+-- significant; a word is stored high byte first": so the bits of a record, counted from 0, run on through its bytes, the most
+-- significant first.
 use Prim.Native.Nat.{ℕ, zero, suc, _+_, _-_, _*_, _/_, _%_, _^_}
 use mathlib.Core.Bool.{cond}
 use mathlib.Core.List.{List, [], _∷_}

@@ -123,7 +123,8 @@ fn put_field(bytes: &mut [u8], start: usize, width: usize, value: u64)
     store(bytes, from, count, new);
 }
 
-// The field of `width` bits from bit `start` on, or of one wider than the widest its first bits, becomes the lowest bits of `value`.
+// The field of `width` bits from bit `start` on, or of one wider than the widest its first bits, becomes the lowest bits of
+// `value`.
 pub fn write_bits(bytes: &mut [u8], start: usize, width: usize, value: u64)
     ensures { λ _. ⌜ now (bytes .exit) ≡ setBits start (min width widest) value (now (bytes .entry)) ⌝ }
 {

@@ -16,7 +16,8 @@ use Rattle.c_answers.specs.Out.{longestSegment}
 begins : (l : List ℕ) → length l ≤ longestSegment → take (length l) (tab (λ (k : ℕ). getD l k 0) 0 longestSegment) ≡ l
 begins l h =
     ext-getD 0 (take (length l) padded) l size
-    (λ i p. getD-take (length l) padded i 0 (omega (arith, size, p)) ∙ getD-tab (λ (k : ℕ). getD l k 0) longestSegment i 0 (omega (arith, size, p, h)))
+    (λ i p. getD-take (length l) padded i 0 (omega (arith, size, p))
+    ∙ getD-tab (λ (k : ℕ). getD l k 0) longestSegment i 0 (omega (arith, size, p, h)))
   where
     padded : List ℕ
     padded = tab (λ (k : ℕ). getD l k 0) 0 longestSegment
@@ -25,6 +26,7 @@ begins l h =
     size = simp length-take (omega (arith, length-tab (λ (k : ℕ). getD l k 0) 0 longestSegment))
 
 pub room-for-segment : (this earlier : List ℕ) (number : ℕ)
-    → take (length (segmentAnswer this earlier number .value)) (tab (λ (k : ℕ). getD (segmentAnswer this earlier number .value) k 0) 0 longestSegment)
+    → take (length (segmentAnswer this earlier number .value))
+    (tab (λ (k : ℕ). getD (segmentAnswer this earlier number .value) k 0) 0 longestSegment)
     ≡ segmentAnswer this earlier number .value
 room-for-segment this earlier number = begins (segmentAnswer this earlier number .value) (at-most this earlier number)

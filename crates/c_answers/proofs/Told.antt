@@ -32,17 +32,20 @@ use Rattle.c_answers.specs.Out.{frequencyRateOut, timeOut, openOut, cons
 
 -- a refusal's number is not 0, so that the struct gives no value
 told-refused : {A : Type 0} (n : ℕ) (empty v : A) {x : A} {m : ℕ} → refused x m ≡ unless n empty v → told m x ≡ unless n empty v
-told-refused {A} n empty v {x} {m} p = ap (λ (t : Bool). record { number = m; value = x; given = t }) (refused-some n empty v x m p) ∙ p
+told-refused {A} n empty v {x} {m} p = ap (λ (t : Bool). record { number = m; value = x; given = t })
+    (refused-some n empty v x m p) ∙ p
 
 module _ (n : ℕ) where
   abbrev pub frequency-rate-in : FrequencyRateOut → Answer ℤ
   frequency-rate-in r = told (r .refusal) (r .units)
 
-  frequency-rate-case : (v : ℤ) (a : FrequencyRateAnswer) → shownFrequencyRate a ≡ unless n (pos 0) v → frequency-rate-in (frequencyRateOut a) ≡ unless n (pos 0) v
+  frequency-rate-case : (v : ℤ) (a : FrequencyRateAnswer) → shownFrequencyRate a ≡ unless n (pos 0) v
+      → frequency-rate-in (frequencyRateOut a) ≡ unless n (pos 0) v
   frequency-rate-case v (FrequencyRateAnswer.Units x) p = p
   frequency-rate-case v (FrequencyRateAnswer.Refused m) p = told-refused n (pos 0) v p
 
-  pub frequency-rate-told : (v : ℤ) (a : FrequencyRateAnswer) {r : FrequencyRateOut} → shownFrequencyRate a ≡ unless n (pos 0) v → r ≡ frequencyRateOut a → frequency-rate-in r ≡ unless n (pos 0) v
+  pub frequency-rate-told : (v : ℤ) (a : FrequencyRateAnswer) {r : FrequencyRateOut} → shownFrequencyRate a ≡ unless n (pos 0) v
+      → r ≡ frequencyRateOut a → frequency-rate-in r ≡ unless n (pos 0) v
   frequency-rate-told v a p e = ap frequency-rate-in e ∙ frequency-rate-case v a p
 
   abbrev pub time-in : TimeOut → Answer ℕ
@@ -62,17 +65,20 @@ module _ (n : ℕ) where
   open-case v (OpenAnswer.Opened o) p = p
   open-case v (OpenAnswer.Refused m) p = told-refused n noOpening v p
 
-  pub open-told : (v : Opening) (a : OpenAnswer) {r : OpenOut} → shownOpen a ≡ unless n noOpening v → r ≡ openOut a → open-in r ≡ unless n noOpening v
+  pub open-told : (v : Opening) (a : OpenAnswer) {r : OpenOut} → shownOpen a ≡ unless n noOpening v → r ≡ openOut a
+      → open-in r ≡ unless n noOpening v
   open-told v a p e = ap open-in e ∙ open-case v a p
 
   abbrev pub consistency-in : ConsistencyOut → Answer Bool
   consistency-in r = told (r .refusal) (r .consistent)
 
-  consistency-case : (v : Bool) (a : ConsistencyAnswer) → shownConsistency a ≡ unless n false v → consistency-in (consistencyOut a) ≡ unless n false v
+  consistency-case : (v : Bool) (a : ConsistencyAnswer) → shownConsistency a ≡ unless n false v
+      → consistency-in (consistencyOut a) ≡ unless n false v
   consistency-case v (ConsistencyAnswer.Consistent b) p = p
   consistency-case v (ConsistencyAnswer.Refused m) p = told-refused n false v p
 
-  pub consistency-told : (v : Bool) (a : ConsistencyAnswer) {r : ConsistencyOut} → shownConsistency a ≡ unless n false v → r ≡ consistencyOut a → consistency-in r ≡ unless n false v
+  pub consistency-told : (v : Bool) (a : ConsistencyAnswer) {r : ConsistencyOut} → shownConsistency a ≡ unless n false v
+      → r ≡ consistencyOut a → consistency-in r ≡ unless n false v
   consistency-told v a p e = ap consistency-in e ∙ consistency-case v a p
 
   abbrev pub text-in : TextOut → Answer ℕ

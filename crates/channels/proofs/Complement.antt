@@ -42,7 +42,8 @@ pub negative : (x : ℤ) → SFits w8 x → leZ (pos 0) (toZ w8 (ofZ w8 x)) ≡ 
 unfolding byteOf
 negative (pos n) f e = absurd (let z : ⊥ = omega (arith, leb-false 0 n (ap (leZ (pos 0)) (sym (toZ-ofZ w8 (pos n) f)) ∙ e)) in z)
 negative (negsuc n) f e = (
-  ap (λ (z : ℤ). negsuc 0 -ℤ z) (toZ-ofZ w8 (negsuc n) f) ∙ complement-negsuc n ∙ ap pos (let z : n ≡ 255 - (255 - n) = omega (arith, f .sfits) in z),
+  ap (λ (z : ℤ). negsuc 0 -ℤ z) (toZ-ofZ w8 (negsuc n) f) ∙ complement-negsuc n
+      ∙ ap pos (let z : n ≡ 255 - (255 - n) = omega (arith, f .sfits) in z),
   omega (arith, f .sfits),
   omega arith,
 )

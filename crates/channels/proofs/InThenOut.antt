@@ -32,7 +32,8 @@ module _ (one two three four : List ℤ) (n c : ℕ) (least : 1 ≤ c) (most : c
       → samplesOf (interleaved n one two three four) c n ≡ take n (channelOf one two three four c)
   samples-out h f =
       sym
-      (tab-ext (sampleOf (interleaved n one two three four) c) n (pos 0) (take n (channelOf one two three four c)) (simp length-take (omega arith))
+      (tab-ext (sampleOf (interleaved n one two three four) c) n (pos 0) (take n (channelOf one two three four c))
+      (simp length-take (omega arith))
       (λ k q. (rw getD-take) ∙ sym (in-then-out k q (f k))))
 
   -- a buffer to which they go out

@@ -41,4 +41,5 @@ module _ (one two three four : List ℤ) where
 
   pub bytes-all : {b l : List ℕ} (n k : ℕ) → k ≡ n → length b ≡ 4 * n → Bytes b (4 * k) l → l ≡ interleaved n one two three four
   unfolding interleaved
-  bytes-all {b} {l} n k e q o = tab-ext (interleavedByte one two three four) (4 * n) 0 l (o .same ∙ q) (λ i h. o .low i (omega (arith, e)))
+  bytes-all {b} {l} n k e q o = tab-ext (interleavedByte one two three four) (4 * n) 0 l (o .same
+      ∙ q) (λ i h. o .low i (omega (arith, e)))

@@ -22,17 +22,21 @@ module _ (s : List ℕ) (n : ℕ) (whole : length s ≡ 4 * n) (bytes : (i : ℕ
       at : (i : ℕ) → i < 4 * n → interleavedByte one two three four i ≡ getD s i 0
       at i h =
           let e : 4 * (i / 4) + (i % 4 + 1 - 1) ≡ i = omega arith in
-          ap byteOf (same (i % 4 + 1) (i / 4) (omega arith) (omega arith) (omega arith) ∙ ap (λ (j : ℕ). signedOf (getD s j 0)) e) ∙ byte-of-signed (getD s i 0) (bytes i)
+          ap byteOf (same (i % 4 + 1) (i / 4) (omega arith) (omega arith) (omega arith) ∙ ap (λ (j : ℕ). signedOf (getD s j 0)) e)
+          ∙ byte-of-signed (getD s i 0) (bytes i)
 
   -- from the samples themselves
   pub samples-in : interleaved n (samplesOf s 1 n) (samplesOf s 2 n) (samplesOf s 3 n) (samplesOf s 4 n) ≡ s
   samples-in =
       out-then-in _ _ _ _
-      (λ c k l h q. ap (λ (x : List ℤ). getD x k (pos 0)) (channel-of-each (λ x c. samplesOf s c n) [] [] [] [] c l h) ∙ getD-tab (sampleOf s c) n k (pos 0) q)
+      (λ c k l h q. ap (λ (x : List ℤ). getD x k (pos 0)) (channel-of-each (λ x c. samplesOf s c n) [] [] [] [] c l h)
+      ∙ getD-tab (sampleOf s c) n k (pos 0) q)
 
   -- from four buffers to which they went out
   pub buffers-in : (one two three four : List ℤ)
-      → interleaved n (over one (sampleOf s 1) n) (over two (sampleOf s 2) n) (over three (sampleOf s 3) n) (over four (sampleOf s 4) n) ≡ s
+      → interleaved n (over one (sampleOf s 1) n) (over two (sampleOf s 2) n) (over three (sampleOf s 3) n)
+      (over four (sampleOf s 4) n) ≡ s
   buffers-in one two three four =
       out-then-in _ _ _ _
-      (λ c k l h q. ap (λ (x : List ℤ). getD x k (pos 0)) (channel-of-each (λ x c. over x (sampleOf s c) n) one two three four c l h) ∙ over-low _ (sampleOf s c) (pos 0) n k q)
+      (λ c k l h q. ap (λ (x : List ℤ). getD x k (pos 0))
+      (channel-of-each (λ x c. over x (sampleOf s c) n) one two three four c l h) ∙ over-low _ (sampleOf s c) (pos 0) n k q)

@@ -19,7 +19,8 @@ pub record Accepted (j : Judged) : Type 0 where
   pub long : headerBytes ≤ j .bytes
   pub words : j .bytes ≡ 2 * j .«length_words»
   pub line : SoundLine (j .«sample_rate») (sampleRateOf (j .«sample_rate»))
-  pub size : (j .«length_words» ≡ wordsB (sampleRateOf (j .«sample_rate»))) ⊎ (j .«length_words» ≡ wordsA (sampleRateOf (j .«sample_rate»)))
+  pub size : (j .«length_words» ≡ wordsB (sampleRateOf (j .«sample_rate»))) ⊎ (j .«length_words»
+      ≡ wordsA (sampleRateOf (j .«sample_rate»)))
   pub tag : j .«time_tag» ≤ lastMs
   pub good : j .decimals ≡ true
 

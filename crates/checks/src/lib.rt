@@ -45,8 +45,8 @@ pub fn wrong_date(year: u64, day: u64) -> bool
     (year > 99) | ((day == 0) | (day > 366))
 }
 
-// The number of the first check of 1 to 11 that applies, or 0. Each line has the checks after its own as what else is given, so the
-// last check comes first.
+// The number of the first check of 1 to 11 that applies, or 0. Each line has the checks after its own as what else is given, so
+// the last check comes first.
 pub fn first_check(j: Judged) -> u8
     ensures { λ r. ⌜ r ≡ first (checks j) ⌝ }
 {

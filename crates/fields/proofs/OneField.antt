@@ -21,7 +21,8 @@ use Rattle.fields.specs.Field.{wordOf, bitOf, start, bitWidth, lastReada
 -- the test gives the facts
 pub is-readable : (f : Field) → T (readable f) → Readable f
 is-readable f t =
-    let words : T (leb 1 (wordOf f) && leb (wordOf f) lastReadableWord) = left (leb 1 (wordOf f) && leb (wordOf f) lastReadableWord) _ t in
+    let words : T (leb 1 (wordOf f) && leb (wordOf f) lastReadableWord) = left (leb 1 (wordOf f)
+    && leb (wordOf f) lastReadableWord) _ t in
     let rest : T ((leb 1 (bitOf f) && leb (bitOf f) 16) && leb (bitWidth f) widest) =
     right (leb 1 (wordOf f) && leb (wordOf f) lastReadableWord) _ t in
     let bits : T (leb 1 (bitOf f) && leb (bitOf f) 16) = left (leb 1 (bitOf f) && leb (bitOf f) 16) _ rest in
@@ -48,7 +49,8 @@ digits-width w t =
 
 -- the code of a value that fits has no more bits than the field, and stands for the value
 code-value : (k : Bool) (w v : ℕ) → T (not k || eqb (w % 4) 0) → T (not k || ltb v (10 ^ (w / 4))) → T (k || ltb v (2 ^ w))
-    → (cond k (coded (w / 4) v) v < 2 ^ w) × (cond k (decimalValue (w / 4) (cond k (coded (w / 4) v) v)) (cond k (coded (w / 4) v) v) ≡ v)
+    → (cond k (coded (w / 4) v) v < 2 ^ w) × (cond k (decimalValue (w / 4) (cond k (coded (w / 4) v) v))
+    (cond k (coded (w / 4) v) v) ≡ v)
 code-value true w v whole d b = (
   subst (λ (z : ℕ). coded (w / 4) v < z) (digits-width w whole) (coded-lt (w / 4) v),
   decimal-coded (w / 4) v (ltb→lt v (10 ^ (w / 4)) d),
@@ -62,7 +64,8 @@ value-code true w x whole h g = coded-decimal (w / 4) x (subst (λ (z : ℕ). x 
 value-code false w x whole h g = refl
 
 value-fits : (k : Bool) (w x : ℕ) → x < 2 ^ w → T (not k || digits (w / 4) x)
-    → T (not k || ltb (cond k (decimalValue (w / 4) x) x) (10 ^ (w / 4))) × T (k || ltb (cond k (decimalValue (w / 4) x) x) (2 ^ w))
+    → T (not k || ltb (cond k (decimalValue (w / 4) x) x) (10 ^ (w / 4)))
+    × T (k || ltb (cond k (decimalValue (w / 4) x) x) (2 ^ w))
 value-fits true w x h g = (lt→ltb (decimalValue (w / 4) x) (10 ^ (w / 4)) (decimal-lt (w / 4) x g), tt)
 value-fits false w x h g = (tt, lt→ltb x (2 ^ w) h)
 
@@ -99,7 +102,8 @@ with-value f b t h g =
 pub value-lt : (f : Field) (b : List ℕ) → isDecimal f ≡ false → valueOf f b < 2 ^ bitWidth f
 unfolding valueOf
 value-lt f b e =
-    subst (λ (t : Bool). cond t (decimalValue (digitCount f) (getBits (start f) (bitWidth f) b)) (getBits (start f) (bitWidth f) b) < 2 ^ bitWidth f) (sym e)
+    subst (λ (t : Bool). cond t (decimalValue (digitCount f) (getBits (start f) (bitWidth f) b))
+    (getBits (start f) (bitWidth f) b) < 2 ^ bitWidth f) (sym e)
     (getBits-lt (start f) (bitWidth f) b)
 
 -- what is read from good digits fits
@@ -125,9 +129,11 @@ pub digits-other : (f g : Field) (v : ℕ) (b : List ℕ) → (start f + bitWidt
     → digitsGood f (withValue g v b) ≡ digitsGood f b
 unfolding withValue digitsGood
 digits-other f g v b o =
-    ap (λ (x : ℕ). not (isDecimal f) || digits (digitCount f) x) (get-other (start g) (bitWidth g) (encoded g v) (start f) (bitWidth f) b o)
+    ap (λ (x : ℕ). not (isDecimal f) || digits (digitCount f) x)
+    (get-other (start g) (bitWidth g) (encoded g v) (start f) (bitWidth f) b o)
 
 -- a bit outside the field is as it was
-pub bit-other : (f : Field) (v : ℕ) (b : List ℕ) (i : ℕ) → (i < start f) ⊎ (start f + bitWidth f ≤ i) → bitAt (withValue f v b) i ≡ bitAt b i
+pub bit-other : (f : Field) (v : ℕ) (b : List ℕ) (i : ℕ) → (i < start f) ⊎ (start f + bitWidth f ≤ i)
+    → bitAt (withValue f v b) i ≡ bitAt b i
 unfolding withValue
 bit-other f v b i o = bit-kept (start f) (bitWidth f) (encoded f v) b i o

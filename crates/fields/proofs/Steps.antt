@@ -18,7 +18,8 @@ module _ (f : Field) (r : Readable f) where
   count-whole : min (digitCount f) mostDigits ≡ digitCount f
   count-whole = min-eq-left (let h : digitCount f ≤ 14 = omega (arith, r .narrow) in h)
 
-module _ (f : Field) (r : Readable f) (b : List ℕ) (s x : ℕ) (at : s ≡ start f) (got : x ≡ getBits s (min (bitWidth f) widest) b) where
+module _ (f : Field) (r : Readable f) (b : List ℕ) (s x : ℕ) (at : s ≡ start f) (got : x
+    ≡ getBits s (min (bitWidth f) widest) b) where
   code : x ≡ getBits (start f) (bitWidth f) b
   code = got ∙ (λ i. getBits (at i) (width-whole f r i) b)
 
@@ -37,7 +38,8 @@ module _ (f : Field) (r : Readable f) (b : List ℕ) (s x : ℕ) (at : s ≡ sta
   pub digits-decimal : isDecimal f ≡ true → digits (min (digitCount f) mostDigits) x ≡ digitsGood f b
   unfolding digitsGood
   digits-decimal e =
-      (λ i. digits (count-whole f r i) (code i)) ∙ sym (ap (λ (t : Bool). not t || digits (digitCount f) (getBits (start f) (bitWidth f) b)) e)
+      (λ i. digits (count-whole f r i) (code i)) ∙ sym
+      (ap (λ (t : Bool). not t || digits (digitCount f) (getBits (start f) (bitWidth f) b)) e)
 
 pub digits-binary : (f : Field) (b : List ℕ) → isDecimal f ≡ false → true ≡ digitsGood f b
 unfolding digitsGood

@@ -57,7 +57,8 @@ pub length-read : (fs : List Field) (b : List ℕ) → length (readAll fs b) ≡
 length-read [] b = refl
 length-read (f ∷ fs) b = ap suc (length-read fs b)
 
-pub read-at : (fs : List Field) (b : List ℕ) (d : Field) (k : ℕ) → k < length fs → getD (readAll fs b) k 0 ≡ valueOf (getD fs k d) b
+pub read-at : (fs : List Field) (b : List ℕ) (d : Field) (k : ℕ) → k < length fs
+    → getD (readAll fs b) k 0 ≡ valueOf (getD fs k d) b
 read-at [] b d k h = absurd (not-suc-le-zero h)
 read-at (f ∷ fs) b d zero h = refl
 read-at (f ∷ fs) b d (suc k) h = read-at fs b d k (le-of-suc-le-suc h)
@@ -85,11 +86,13 @@ digits-kept f (g ∷ gs) (v ∷ vs) b t =
     ∙ digits-other f g v b (apart-cases f g (left (apart f g) (allApart f gs) t))
 
 -- the table holds after a field is written as before
-still-sound : (f : Field) (v : ℕ) (b : List ℕ) (fs : List Field) → T (sound (8 * length b) fs) → T (sound (8 * length (withValue f v b)) fs)
+still-sound : (f : Field) (v : ℕ) (b : List ℕ) (fs : List Field) → T (sound (8 * length b) fs)
+    → T (sound (8 * length (withValue f v b)) fs)
 still-sound f v b fs t = subst (λ (n : ℕ). T (sound (8 * n) fs)) (sym (length-with f v b)) t
 
 -- what was written is read
-pub read-write : (fs : List Field) (vs b : List ℕ) → T (sound (8 * length b) fs) → T (allFit decimalFits fs vs) → T (allFit binaryFits fs vs)
+pub read-write : (fs : List Field) (vs b : List ℕ) → T (sound (8 * length b) fs) → T (allFit decimalFits fs vs)
+    → T (allFit binaryFits fs vs)
     → readAll fs (writeAll fs vs b) ≡ vs
 read-write [] [] b t d n = refl
 read-write [] (v ∷ vs) b t d n = absurd d
@@ -106,7 +109,8 @@ read-write (f ∷ fs) (v ∷ vs) b t d n =
     λ i. head i ∷ tail i
 
 -- and its digits are good
-pub digits-write : (fs : List Field) (vs b : List ℕ) → T (sound (8 * length b) fs) → T (allFit decimalFits fs vs) → T (allFit binaryFits fs vs)
+pub digits-write : (fs : List Field) (vs b : List ℕ) → T (sound (8 * length b) fs) → T (allFit decimalFits fs vs)
+    → T (allFit binaryFits fs vs)
     → T (allDigitsGood fs (writeAll fs vs b))
 digits-write [] [] b t d n = tt
 digits-write [] (v ∷ vs) b t d n = absurd d

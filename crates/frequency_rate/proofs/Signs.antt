@@ -21,7 +21,11 @@ use Rattle.frequency_rate.specs.FrequencyRate.{digitsBelow, frequencyRat
 -- digits and power of any bytes
 pub digits-small : (b : List ℕ) → valueOf frequencyRateDigits b < digitsBelow
 unfolding valueOf
-digits-small b = omega (arith, decimal-room (digitCount frequencyRateDigits) (getBits (start frequencyRateDigits) (bitWidth frequencyRateDigits) b))
+digits-small b = omega (
+  arith,
+  decimal-room (digitCount frequencyRateDigits)
+      (getBits (start frequencyRateDigits) (bitWidth frequencyRateDigits) b),
+)
 
 pub power-small : (b : List ℕ) → valueOf frequencyRatePower b < 8
 power-small b = value-lt frequencyRatePower b refl

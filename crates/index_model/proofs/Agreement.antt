@@ -90,7 +90,8 @@ module _ (o : Opening) where
           sound = entry-cases L n (some b) (g .sound) (λ x e. subst (Sound o) (let z : b ≡ x = cc in z) h);
         }
       where
-        count : (s : ℕ) → cellTotal (withEntry L n (some b)) s 0 (R o) ≡ cellTotal (withEntry L n none) s 0 (R o) + share s 0 (some b)
+        count : (s : ℕ) → cellTotal (withEntry L n (some b)) s 0 (R o)
+            ≡ cellTotal (withEntry L n none) s 0 (R o) + share s 0 (some b)
         count s = one-share L n (some b) s 0 (R o) p q ∙ count-sum (cellTotal (withEntry L n none) s 0 (R o)) (share s 0 (some b))
 
         by-test : (s : ℕ) (t : Bool) → eqb (secondOf b) s ≡ t → cellTotal (withEntry L n (some b)) s 0 (R o) ≤ fullCount o
@@ -138,7 +139,8 @@ module _ (o : Opening) where
             ∙ agree .rows-are i hi j hj
 
     -- the second that is left, worked out anew, and every other second as it was
-    pub left-cells : (held : Option (List ℕ)) → Inside o held → (L' : Ledger) → Regular L' → (rows : List ℕ) → RowsOf (R o) L' rows
+    pub left-cells : (held : Option (List ℕ)) → Inside o held → (L' : Ledger) → Regular L' → (rows : List ℕ)
+        → RowsOf (R o) L' rows
         → (k : ℕ) → k < C o → (j : ℕ) → j < width → cell (leaveFor o rows held (c .seconds)) k j
         ≡ cond (isOf (F o + k) held) (cellTotal L' (F o + k) j (R o)) (cellTotal L (F o + k) j (R o))
     left-cells none h L' g rows are k hk j hj = agree .seconds-are k hk j hj

@@ -87,7 +87,8 @@ module _ (o : Opening) (L : Ledger) (c : Buffers) (regular : Regular o L) (agree
 
   -- a second that the new entry is not of is right once the old entry has left
   settled : (held : Option (List ℕ)) (k j : ℕ) → isOf (F o + k) held ≡ false → (t : Bool) → isOf (F o + k) (L n) ≡ t
-      → cond t (cellTotal (withEntry L n held) (F o + k) j (R o)) (cellTotal L (F o + k) j (R o)) ≡ cellTotal (withEntry L n held) (F o + k) j (R o)
+      → cond t (cellTotal (withEntry L n held) (F o + k) j (R o)) (cellTotal L (F o + k) j (R o))
+      ≡ cellTotal (withEntry L n held) (F o + k) j (R o)
   settled held k j e true et = refl
   settled held k j e false et = sym (stays L n (F o + k) j (R o) held p q et e)
 
@@ -157,7 +158,8 @@ module _ (o : Opening) (L : Ledger) (c : Buffers) (regular : Regular o L) (agree
 
     -- the second that is joined: its other records' totals, merged with the row
     added : (k j : ℕ) → k < C o → j < width → eqb s (F o + k) ≡ true → isOf (F o + k) (L n) ≡ false
-        → cell (withBlock (secondsLeft (some b)) (windowPlace o s) (merged (blockAt (secondsLeft (some b)) (windowPlace o s)) (rowOf b)))
+        → cell (withBlock (secondsLeft (some b)) (windowPlace o s)
+        (merged (blockAt (secondsLeft (some b)) (windowPlace o s)) (rowOf b)))
         k j ≡ cellTotal new (F o + k) j (R o)
     added k j hk hj e e' =
         (λ t. cell (withBlock seconds (windowPlace o s) (merged part (rowOf b))) (z t) j)
@@ -211,7 +213,8 @@ module _ (o : Opening) (L : Ledger) (c : Buffers) (regular : Regular o L) (agree
         here t e e' = (λ i. isOf (sym (eqb-true s (F o + k) e) i) (L n)) ∙ e'
 
         by-tests : (t : Bool) → isOf s (L n) ≡ t → (u : Bool) → eqb s (F o + k) ≡ u
-            → cell (cond t seconds (withBlock seconds (windowPlace o s) (merged (blockAt seconds (windowPlace o s)) (rowOf b)))) k j
+            → cell (cond t seconds (withBlock seconds (windowPlace o s)
+            (merged (blockAt seconds (windowPlace o s)) (rowOf b)))) k j
             ≡ cellTotal new (F o + k) j (R o)
         by-tests true et true eu =
             left-are (some b) new-regular k hk j hj
@@ -219,7 +222,8 @@ module _ (o : Opening) (L : Ledger) (c : Buffers) (regular : Regular o L) (agree
         by-tests true et false eu = left-are (some b) new-regular k hk j hj ∙ settled (some b) k j eu (isOf (F o + k) (L n)) refl
         by-tests false et true eu = added k j hk hj eu (here false eu et)
         by-tests false et false eu =
-            at-other seconds (windowPlace o s) (merged (blockAt seconds (windowPlace o s)) (rowOf b)) (omega (arith, w .0, w .1, long))
+            at-other seconds (windowPlace o s) (merged (blockAt seconds (windowPlace o s)) (rowOf b))
+            (omega (arith, w .0, w .1, long))
             (length-merged (blockAt seconds (windowPlace o s)) (rowOf b)) k j hj
             (λ z. eqb-false s (F o + k) eu (omega (arith, z, w .0)))
             ∙ left-are (some b) new-regular k hk j hj

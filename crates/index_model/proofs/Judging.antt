@@ -114,13 +114,15 @@ module _ (o : Opening) (fine : limitsWrong o || heldWrong o ≡ false) (L : Ledg
   -- the records of other numbers in a second
   pub others-count : (n s : ℕ) → 0 < n → n ≤ R o → length (recordsOf (withEntry L n none) s (R o))
       ≡ cellTotal (withEntry L n none) s 0 (R o)
-  others-count n s p q = sym (measured (measures-records o) (withEntry L n none) (regular-without o L regular n p q .sound) s (R o))
+  others-count n s p q = sym (measured (measures-records o) (withEntry L n none) (regular-without o L regular n p q .sound) s
+      (R o))
 
   full-is : (n s : ℕ) → isOutside o n ≡ false → not (inWindow o s) ≡ false → isFull o (n - 1) s c ≡ ledgerFull o L n s
   unfolding isFull ledgerFull
   full-is n s e e' =
       (λ t. leb (fullCount o + own t) (count t))
-      ∙ leb-same (fullCount o + share s 0 (L n)) (cellTotal L s 0 (R o)) (perSecond o) (length (recordsOf (withEntry L n none) s (R o)))
+      ∙ leb-same (fullCount o + share s 0 (L n)) (cellTotal L s 0 (R o)) (perSecond o)
+      (length (recordsOf (withEntry L n none) s (R o)))
       (λ h. omega (arith, count-own o L regular n (range .0) (range .1) s, others-count n s (range .0) (range .1)))
       (λ h. omega (arith, count-own o L regular n (range .0) (range .1) s, others-count n s (range .0) (range .1)))
     where
@@ -174,7 +176,8 @@ module _ (o : Opening) (fine : limitsWrong o || heldWrong o ≡ false) (L : Ledg
   pub shown-is : (s : ℕ) → inWindow o s ≡ true → secondShown o (blockAt (c .seconds) (windowPlace o s)) ≡ ledgerSecond o L s
   shown-is s e =
       ap (secondShown o)
-      (block-cells (c .seconds) (windowPlace o s) (omega (arith, w .0, w .1, agree .seconds-long)) (λ (j : ℕ). cellTotal L s j (R o))
+      (block-cells (c .seconds) (windowPlace o s) (omega (arith, w .0, w .1, agree .seconds-long))
+      (λ (j : ℕ). cellTotal L s j (R o))
       (λ j h. agree .seconds-are (windowPlace o s) (omega (arith, w .0, w .1)) j h ∙ (λ t. cellTotal L (z t) j (R o))))
       ∙ second-decoded o L (regular .sound) s
     where
@@ -219,7 +222,8 @@ module _ (o : Opening) (fine : limitsWrong o || heldWrong o ≡ false) (L : Ledg
       (λ t. cells-right k hk j (omega arith) t && eqb (cell (c .seconds) k j) (cellFrom (c .rows) (F o + k) j (R o)))
       ∙ eq-eqb (cell (c .seconds) k j) (cellFrom (c .rows) (F o + k) j (R o))
       (agree .seconds-are k hk j (omega arith)
-      ∙ sym (passed (R o) L (c .rows) (agree .rows-are) (F o + k) j (omega arith) (R o) (omega arith) (few-fit o L regular (F o + k) j)))
+      ∙ sym (passed (R o) L (c .rows) (agree .rows-are) (F o + k) j (omega arith) (R o) (omega arith)
+      (few-fit o L regular (F o + k) j)))
 
   seconds-right : (m : ℕ) → m ≤ C o → secondsRight o c m ≡ true
   unfolding secondsRight

@@ -70,7 +70,8 @@ module _ (o : Opening) where
     within-limits e =
         let checks = 13 when (limitsWrong o || heldWrong o) ∷ 14 when tooSmall o c ∷ [] in
         let limits = or-false (limitsWrong o) (heldWrong o) (none-applies checks 0 tt e) .0 in
-        let a = or-false (eqb (R o) 0 || ltb highestLimit (R o) || eqb (C o) 0 || ltb daySeconds (C o)) (ltb daySeconds (F o + C o)) limits in
+        let a = or-false (eqb (R o) 0 || ltb highestLimit (R o) || eqb (C o) 0
+        || ltb daySeconds (C o)) (ltb daySeconds (F o + C o)) limits in
         let b = or-false (eqb (R o) 0 || ltb highestLimit (R o) || eqb (C o) 0) (ltb daySeconds (C o)) (a .0) in
         let c' = or-false (eqb (R o) 0 || ltb highestLimit (R o)) (eqb (C o) 0) (b .0) in
         let cells = enough (none-applies checks 1 tt e) in
@@ -86,7 +87,8 @@ module _ (o : Opening) where
         → width * C o ≤ length (c .seconds) → openingRefusal o c ≡ 0
     unfolding openingRefusal tooSmall
     opening-fine e p q =
-        λ t. cond (e t) 13 (cond (le-ltb (length (c .rows)) (width * R o) p t || le-ltb (length (c .seconds)) (width * C o) q t) 14 0)
+        λ t. cond (e t) 13 (cond (le-ltb (length (c .rows)) (width * R o) p t
+        || le-ltb (length (c .seconds)) (width * C o) q t) 14 0)
 
 -- ## L
 

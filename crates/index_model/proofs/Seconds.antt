@@ -118,7 +118,8 @@ module _ (o : Opening) where
     unfolding join
     length-join true = refl
     length-join false =
-        length-with seconds (windowPlace o s) _ (fits s seconds window long) (length-merged (blockAt seconds (windowPlace o s)) row)
+        length-with seconds (windowPlace o s) _ (fits s seconds window long)
+        (length-merged (blockAt seconds (windowPlace o s)) row)
 
     pub join-frame : (anew : Bool) (m : ℕ) → eqb s (F o + m / width) ≡ false → getD (join anew seconds (windowPlace o s) row) m 0
         ≡ getD seconds m 0

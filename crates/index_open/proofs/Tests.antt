@@ -40,4 +40,5 @@ module _ (o : Opening) (s : ℕ) where
 
   pub from-window : F o ≤ s → ltb (s - F o) (C o) ≡ inWindow o s
   unfolding inWindow
-  from-window h = same-test (s - F o) (C o) s (F o + C o) (λ p. omega arith) (λ p. omega arith) ∙ sym (λ i. le-leb (F o) s h i && ltb s (F o + C o))
+  from-window h = same-test (s - F o) (C o) s (F o + C o) (λ p. omega arith) (λ p. omega arith)
+      ∙ sym (λ i. le-leb (F o) s h i && ltb s (F o + C o))

@@ -34,7 +34,8 @@ module _ (o : Opening) (rows : List ℕ) (was old : ℕ) (seconds : List ℕ) wh
   left-place e = placed o old (holds (inWindow o old) (right (not (eqb was 0)) (inWindow o old) (held isLeft e)))
 
   pub second-left : WithinLimits o (lent rows seconds) → isLeft ≡ true
-      → blockPut seconds (windowPlace o old) (anew (min (o .«highest_number») (length rows / width))) ≡ leave o rows was old seconds
+      → blockPut seconds (windowPlace o old) (anew (min (o .«highest_number») (length rows / width)))
+      ≡ leave o rows was old seconds
   unfolding leave
   second-left limits e =
       let p = left-place e in

@@ -36,10 +36,12 @@ rate-size digits power sign = by-test (eqb sign 1)
 
 module _ (b : List ℕ) (e : recordRefusal b ≡ 0) where
   frequency-small : valueOf readback b < 10 ^ 14
-  frequency-small = ltb→lt _ _ (fit-at decimalFits fields1985 (readAll fields1985 b) (placeOf fields1985 readback) (values-small b e .0) (lit< tt))
+  frequency-small = ltb→lt _ _ (fit-at decimalFits fields1985 (readAll fields1985 b) (placeOf fields1985 readback)
+      (values-small b e .0) (lit< tt))
 
   digits-small : valueOf frequencyRateDigits b < 10 ^ 5
-  digits-small = ltb→lt _ _ (fit-at decimalFits fields1985 (readAll fields1985 b) (placeOf fields1985 frequencyRateDigits) (values-small b e .0) (lit< tt))
+  digits-small = ltb→lt _ _ (fit-at decimalFits fields1985 (readAll fields1985 b) (placeOf fields1985 frequencyRateDigits)
+      (values-small b e .0) (lit< tt))
 
   time-small : sampleTime b 0 < 10 ^ 11
   unfolding sampleTime

@@ -19,7 +19,8 @@ module _ {A : Type 0} where
   getD-tab-from : (f : ℕ → A) (k n i : ℕ) (d : A) → i < n → getD (tab f k n) i d ≡ f (k + i)
   getD-tab-from f k zero i d h = absurd (not-suc-le-zero h)
   getD-tab-from f k (suc n) zero d h = ap f (sym (add-zero k))
-  getD-tab-from f k (suc n) (suc i) d h = getD-tab-from f (suc k) n i d (le-of-suc-le-suc h) ∙ ap f (suc-add k i ∙ sym (add-suc k i))
+  getD-tab-from f k (suc n) (suc i) d h = getD-tab-from f (suc k) n i d (le-of-suc-le-suc h)
+      ∙ ap f (suc-add k i ∙ sym (add-suc k i))
 
   pub getD-tab : (f : ℕ → A) (n i : ℕ) (d : A) → i < n → getD (tab f 0 n) i d ≡ f i
   getD-tab f n i d h = getD-tab-from f 0 n i d h ∙ ap f (zero-add i)
@@ -33,7 +34,8 @@ module _ {A : Type 0} where
   pub tab-more : (f : ℕ → A) (k n : ℕ) → tab f k (suc n) ≡ tab f k n ++ f (k + n) ∷ []
   tab-more f k zero = ap (λ (j : ℕ). f j ∷ []) (sym (add-zero k))
   tab-more f k (suc n) =
-      ap (λ (l : List A). f k ∷ l) (tab-more f (suc k) n ∙ ap (λ (j : ℕ). tab f (suc k) n ++ f j ∷ []) (suc-add k n ∙ sym (add-suc k n)))
+      ap (λ (l : List A). f k ∷ l) (tab-more f (suc k) n
+      ∙ ap (λ (j : ℕ). tab f (suc k) n ++ f j ∷ []) (suc-add k n ∙ sym (add-suc k n)))
 
   -- l is b with its first n entries by the rule
   pub record Filled (b : List A) (f : ℕ → A) (d : A) (n : ℕ) (l : List A) : Type 0 where
@@ -44,7 +46,8 @@ module _ {A : Type 0} where
   pub filled-none : (b : List A) (f : ℕ → A) (d : A) → Filled b f d 0 b
   filled-none b f d = record { same = refl; low = λ k h. absurd (not-suc-le-zero h); high = λ k h. refl }
 
-  pub filled-more : {b : List A} {f : ℕ → A} {d : A} {n : ℕ} {l : List A} (v : A) → n < length b → v ≡ f n → Filled b f d n l → Filled b f d (n + 1) (set l n v)
+  pub filled-more : {b : List A} {f : ℕ → A} {d : A} {n : ℕ} {l : List A} (v : A) → n < length b → v ≡ f n → Filled b f d n l
+      → Filled b f d (n + 1) (set l n v)
   filled-more {b} {f} {d} {n} {l} v h e o =
       record {
         same = length-set l n v ∙ o .same;
@@ -65,7 +68,8 @@ module _ {A : Type 0} where
       let m : ℕ = k - n in
       let e : length (tab f 0 n) + m ≡ k = omega (arith, length-tab f 0 n) in
       let e' : n + m ≡ k = omega arith in
-      ap (λ (j : ℕ). getD (tab f 0 n ++ drop n b) j d) (sym e) ∙ getD-append-add (tab f 0 n) (drop n b) m d ∙ getD-drop n b m d ∙ ap (λ (j : ℕ). getD b j d) e'
+      ap (λ (j : ℕ). getD (tab f 0 n ++ drop n b) j d) (sym e) ∙ getD-append-add (tab f 0 n) (drop n b) m d ∙ getD-drop n b m d
+      ∙ ap (λ (j : ℕ). getD b j d) e'
 
   pub over-none : (b : List A) (f : ℕ → A) → over b f 0 ≡ b
   unfolding over
@@ -78,7 +82,9 @@ module _ {A : Type 0} where
   pub filled-done : {b : List A} {f : ℕ → A} {d : A} {n : ℕ} {l : List A} → n ≤ length b → Filled b f d n l → l ≡ over b f n
   filled-done {b} {f} {d} {n} {l} h o =
       ext-getD d l (over b f n) (o .same ∙ sym (length-over b f n h))
-      (λ i q. ⊎-elim (λ p. o .high i p ∙ sym (over-high b f d n i p)) (λ p. o .low i p ∙ sym (over-low b f d n i p)) (le-or-lt n i))
+      (λ i q. ⊎-elim (λ p. o .high i p ∙ sym (over-high b f d n i p)) (λ p. o .low i p
+      ∙ sym (over-low b f d n i p)) (le-or-lt n i))
 
-  pub filled-at : {b : List A} {f : ℕ → A} {d : A} {m n : ℕ} {l : List A} → m ≡ n → n ≤ length b → Filled b f d m l → l ≡ over b f n
+  pub filled-at : {b : List A} {f : ℕ → A} {d : A} {m n : ℕ} {l : List A} → m ≡ n → n ≤ length b → Filled b f d m l
+      → l ≡ over b f n
   filled-at {b} {f} {d} {m} {n} {l} e h o = filled-done {d = d} h (subst (λ (k : ℕ). Filled b f d k l) e o)

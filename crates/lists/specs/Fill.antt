@@ -1,5 +1,5 @@
--- A list given by a rule, and a buffer whose first entries are given by a rule while the others stay: FORMAT, "Samples", of places
--- past the sample count, and so of every other lent output past what is written.
+-- A list given by a rule, and a buffer whose first entries are given by a rule while the others stay: FORMAT, "Samples", of
+-- places past the sample count, and so of every other lent output past what is written.
 use Prim.Native.Nat.{ℕ, zero, suc}
 use mathlib.Core.List.{List, [], _∷_, _++_}
 use lib.ListN.{drop}

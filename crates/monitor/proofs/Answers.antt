@@ -22,7 +22,8 @@ module _ (this earlier : List ℕ) (row : ℕ) where
   -- the answer by the two refusals, whether the row is none, and the two status bits
   abbrev answerBy : ℕ → ℕ → Bool → Bool → Bool → Answer (List ℕ)
   answerBy n m none new old =
-      unless (n then m then first (20 when none ∷ 23 when (not new && not old) ∷ [])) [] (cond new (segmentBytes this row) (segmentBytes earlier row))
+      unless (n then m then first (20 when none ∷ 23 when (not new && not old) ∷ [])) []
+      (cond new (segmentBytes this row) (segmentBytes earlier row))
 
   pub this-refused : (recordRefusal this ≡ 0 → ⊥) → refused [] (recordRefusal this) ≡ rowAnswer this earlier row
   this-refused e = stands (recordRefusal this) _ [] _ e

@@ -55,7 +55,8 @@ module _ (this earlier : List ℕ) (number : ℕ) where
         let rest = first (20 when isNoRow row ∷ 23 when (not (isNew this row) && not (isNew earlier row)) ∷ []) in
         let p = then-zero (recordRefusal this) (recordRefusal earlier then rest) none in
         let q = then-zero (recordRefusal earlier) rest (p .1) in
-        let known = none-applies (20 when isNoRow row ∷ 23 when (not (isNew this row) && not (isNew earlier row)) ∷ []) 0 tt (q .1) in
+        let known = none-applies (20 when isNoRow row ∷ 23 when (not (isNew this row) && not (isNew earlier row)) ∷ []) 0 tt
+        (q .1) in
         (p .0, q .0, below (row-most number) (eqb-false row segmentCount known))
       where
         below : {n : ℕ} → n ≤ segmentCount → (n ≡ segmentCount → ⊥) → n < segmentCount

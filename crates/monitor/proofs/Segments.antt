@@ -24,7 +24,8 @@ module _ (ss : List SegmentWords) (number k : ℕ) (h : k < length ss) where
   step : (b : Bool) → eqb (segmentNumber (getD ss k noSegment)) number ≡ b
       → rowIn (drop k ss) number ≡ cond b 0 (1 + rowIn (drop (k + 1) ss) number)
   unfolding rowIn
-  step b e = ap (λ (l : List SegmentWords). rowIn l number) rest ∙ ap (λ (t : Bool). cond t 0 (1 + rowIn (drop (k + 1) ss) number)) e
+  step b e = ap (λ (l : List SegmentWords). rowIn l number) rest
+      ∙ ap (λ (t : Bool). cond t 0 (1 + rowIn (drop (k + 1) ss) number)) e
 
   pub found : segmentNumber (getD ss k noSegment) ≡ number → rowIn (drop k ss) number ≡ 0
   found e = step _ (eq-eqb _ _ e)
@@ -52,7 +53,8 @@ in-rows : (before : ℕ) (ss : List SegmentWords) (row : ℕ) → row < length s
     → SoundWords (getD ss row noSegment)
 in-rows before [] row h t = absurd (not-suc-le-zero h)
 in-rows before (s ∷ ss) zero h t = of-test before s (left (all (wordTests before s)) (soundAfter (lastWord s) ss) t)
-in-rows before (s ∷ ss) (suc row) h t = in-rows (lastWord s) ss row (le-of-suc-le-suc h) (right (all (wordTests before s)) (soundAfter (lastWord s) ss) t)
+in-rows before (s ∷ ss) (suc row) h t = in-rows (lastWord s) ss row (le-of-suc-le-suc h)
+    (right (all (wordTests before s)) (soundAfter (lastWord s) ss) t)
 
 -- the one computed test: the segments follow the status, word 1
 segments-sound : T (soundAfter 1 segments)

@@ -1,11 +1,11 @@
--- Demand 3 for the exported calls, as a caller in C keeps it: `odr_open` gave an answer whose refusal is 0; its member `opening`, and
--- nothing else, goes into every later call; and nobody but those calls writes to the cells. Then, after any list of calls of `odr_insert`,
--- `odr_remove`, `odr_query` and `odr_is_consistent`, each has answered as the ledger does, every second of the window has the totals and the
--- verdict worked out from nothing over the records then held, the test says yes, and each call altered only what it may. What
--- `odr_second_means` answers then is the ledger's too.
+-- Demand 3 for the exported calls, as a caller in C keeps it: `odr_open` gave an answer whose refusal is 0; its member
+-- `opening`, and nothing else, goes into every later call; and nobody but those calls writes to the cells. Then, after any list
+-- of calls of `odr_insert`, `odr_remove`, `odr_query` and `odr_is_consistent`, each has answered as the ledger does, every
+-- second of the window has the totals and the verdict worked out from nothing over the records then held, the test says yes,
+-- and each call altered only what it may. What `odr_second_means` answers then is the ledger's too.
 --
--- `odr_open` promises what `promised` says, and the later calls promise to be the `insertRefusal`, `inserted`, `queryAnswer` and so on that
--- a history is made of, with the opening that they are given. Assumes nothing.
+-- `odr_open` promises what `promised` says, and the later calls promise to be the `insertRefusal`, `inserted`, `queryAnswer`
+-- and so on that a history is made of, with the opening that they are given. Assumes nothing.
 use Prim.Native.Nat.{ℕ}
 use mathlib.Core.Path.{_≡_, ap, sym, _∙_, subst}
 use mathlib.Core.Bool.{true}
@@ -26,7 +26,8 @@ use Rattle.index_means.proofs.History.{ByLedger, means-of-history}
 use Rattle.c_answers.specs.declared.OpenOut.{OpenOut}
 
 module _ (pattern : List ℕ) (F C R : ℕ) (c : Buffers)
-    (r : OpenOut) (promised : told (r .refusal) (r .opening) ≡ openAnswer pattern F C R c) (none : r .refusal ≡ 0) (calls : List Call) where
+    (r : OpenOut) (promised : told (r .refusal) (r .opening) ≡ openAnswer pattern F C R c) (none : r .refusal
+    ≡ 0) (calls : List Call) where
   given : (openRefusal pattern F C R c ≡ 0) × (r .opening ≡ openingOf pattern F C R)
   unfolding openAnswer
   given =
@@ -47,5 +48,7 @@ module _ (pattern : List ℕ) (F C R : ℕ) (c : Buffers)
   pub exported-test : consistencyAnswer (r .opening) end ≡ accepted true
   exported-test = subst (SaysYes pattern F C R c (given .0) calls) same (test-says-yes pattern F C R c (given .0) calls)
 
-  pub exported-means : (s : ℕ) → meansAnswer (r .opening) s end ≡ ledgerMeansAnswer (r .opening) (ledgerAfter (r .opening) calls noRecords) s
-  exported-means s = subst (ByLedger pattern F C R c (given .0) calls s) same (means-of-history pattern F C R c (given .0) calls s)
+  pub exported-means : (s : ℕ) → meansAnswer (r .opening) s end
+      ≡ ledgerMeansAnswer (r .opening) (ledgerAfter (r .opening) calls noRecords) s
+  exported-means s = subst (ByLedger pattern F C R c (given .0) calls s) same
+      (means-of-history pattern F C R c (given .0) calls s)

@@ -34,7 +34,8 @@ phases-case : (s : PhaseAnswer) → PhasesTold (phasesOut s) (shownPhases s)
 phases-case (PhaseAnswer.Cycles first second) = record { number = refl; first = refl; second = refl }
 phases-case (PhaseAnswer.Refused n) = record { number = refl; first = refl; second = refl }
 
-pub phases-told : (a : Answer (List Float)) (s : PhaseAnswer) {r : PhasesOut} → shownPhases s ≡ a → r ≡ phasesOut s → PhasesTold r a
+pub phases-told : (a : Answer (List Float)) (s : PhaseAnswer) {r : PhasesOut} → shownPhases s ≡ a → r ≡ phasesOut s
+    → PhasesTold r a
 phases-told a s p e =
     let t = phases-case s in
     record {

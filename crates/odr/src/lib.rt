@@ -1,6 +1,6 @@
-// The library for C and Rust, as c/odr.h declares it. Each call takes any input and answers as the call that it hands on to. Numbers
-// come back in structs by value, and what opening returned goes in by value, so no buffer of numbers can be too short; beside a
-// refusal every other member is 0 (crate `c_answers`).
+// The library for C and Rust, as c/odr.h declares it. Each call takes any input and answers as the call that it hands on to.
+// Numbers come back in structs by value, and what opening returned goes in by value, so no buffer of numbers can be too short;
+// beside a refusal every other member is 0 (crate `c_answers`).
 ghost use mathlib.Core.Path.{_≡_};
 ghost use lib.ListN.{length};
 ghost use Rattle.answers.specs.Answer.{told};
@@ -54,8 +54,8 @@ pub extern "C" fn odr_refusal(bytes: &[u8]) -> u8
     record::refusal_of(bytes)
 }
 
-// What follows from a sample rate: the samples a channel has in a record, the records of a second, the microseconds from a sample to
-// the next. 5 for a number that is no rate.
+// What follows from a sample rate: the samples a channel has in a record, the records of a second, the microseconds from a
+// sample to the next. 5 for a number that is no rate.
 #[no_mangle]
 pub extern "C" fn odr_sample_rate(hz: u64) -> RateLineAnswer
     ensures { λ r. ⌜ r ≡ rateLineOut hz ⌝ }

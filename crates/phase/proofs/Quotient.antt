@@ -32,11 +32,13 @@ unfolding phaseOf quotientOf
 exact k n hk hn =
     round-exact binary64 false n (2 ^ k) n (1074 - k) (pow-pos k) hn
     (lt-of-lt-of-le (shl-lt 53 (1074 - k) hn) (pow-mono {i = 53 + (1074 - k)} {j = 2098} (omega arith)))
-    (ap (λ (z : ℕ). n * 2 ^ z) (sym (back 1074 k hk)) ∙ ap (λ (z : ℕ). n * z) (pow-add 2 (1074 - k) k) ∙ sym (mul-assoc n (2 ^ (1074 - k)) (2 ^ k)))
+    (ap (λ (z : ℕ). n * 2 ^ z) (sym (back 1074 k hk)) ∙ ap (λ (z : ℕ). n * z) (pow-add 2 (1074 - k) k)
+    ∙ sym (mul-assoc n (2 ^ (1074 - k)) (2 ^ k)))
 
 -- both, for a count of 48 bits
 pub of-count : (k n : ℕ) → k ≤ 1074 → n < 2 ^ 48
-    → (div binary64 (ofInt binary64 (pos n)) (fin false 1 (pos k)) ≡ phaseOf k n) × HasValue (div binary64 (ofInt binary64 (pos n)) (fin false 1 (pos k))) false n (2 ^ k)
+    → (div binary64 (ofInt binary64 (pos n)) (fin false 1 (pos k)) ≡ phaseOf k n)
+    × HasValue (div binary64 (ofInt binary64 (pos n)) (fin false 1 (pos k))) false n (2 ^ k)
 of-count k n hk hn =
     let q = quotient k n (omega arith) in
     (q, subst (λ (x : Float). HasValue x false n (2 ^ k)) (sym q) (exact k n hk (omega arith)))

@@ -28,8 +28,10 @@ module _ (b : List ℕ) (e : recordRefusal b ≡ 0) where
   stretch-inside =
       let f = record-facts in
       let l = f .line in
-      ⊎-elim (λ p. omega (arith, p, f .words, l .last, l .longer)) (λ p. omega (arith, p, f .words, l .last, l .shorter)) (f .size)
+      ⊎-elim (λ p. omega (arith, p, f .words, l .last, l .longer)) (λ p. omega (arith, p, f .words, l .last, l .shorter))
+      (f .size)
 
   -- every value fits its field
-  pub values-small : T (allFit decimalFits fields1985 (readAll fields1985 b)) × T (allFit binaryFits fields1985 (readAll fields1985 b))
+  pub values-small : T (allFit decimalFits fields1985 (readAll fields1985 b))
+      × T (allFit binaryFits fields1985 (readAll fields1985 b))
   values-small = values-fit fields1985 b (held (allDigitsGood fields1985 b) (record-facts .good))

@@ -32,7 +32,8 @@ abbrev judged : Bool → List ℕ → ℕ → ℕ
 judged d v n = first (checks (judgedOf n (valueIn fields1985 v) d))
 
 module _ (v : List ℕ) (b : List ℕ) (e : writeRefusal (length b) v ≡ 0) where
-  both-none : (judged (allFit decimalFits fields1985 v) v (length b) ≡ 0) × (first (22 when not (allFit binaryFits fields1985 v) ∷ []) ≡ 0)
+  both-none : (judged (allFit decimalFits fields1985 v) v (length b) ≡ 0)
+      × (first (22 when not (allFit binaryFits fields1985 v) ∷ []) ≡ 0)
   unfolding writeRefusal
   both-none = then-zero _ _ e
 
@@ -97,12 +98,15 @@ read-is-written b bytes e =
     )
 
 -- the same of the very values that `read_header` answered: what it gave, `write_header` writes back without changing a byte
-pub answer-is-written : (b : List ℕ) (r : HeaderAnswer) → ((k : ℕ) → getD b k 0 < 256) → shownHeader r ≡ headerAnswer b → r .refusal ≡ 0
+pub answer-is-written : (b : List ℕ) (r : HeaderAnswer) → ((k : ℕ) → getD b k 0 < 256) → shownHeader r ≡ headerAnswer b
+    → r .refusal ≡ 0
     → (writeRefusal (length b) (r .values) ≡ 0) × (afterWriting b (r .values) ≡ b)
 unfolding headerAnswer
 answer-is-written b r bytes e z =
-    let both = given-value (recordRefusal b) noValues (readAll fields1985 b) (r .values) (sym (ap (λ (n : ℕ). told n (r .values)) z) ∙ e) in
-    subst (λ (v : List ℕ). (writeRefusal (length b) v ≡ 0) × (afterWriting b v ≡ b)) (sym (both .1)) (read-is-written b bytes (both .0))
+    let both = given-value (recordRefusal b) noValues (readAll fields1985 b) (r .values)
+    (sym (ap (λ (n : ℕ). told n (r .values)) z) ∙ e) in
+    subst (λ (v : List ℕ). (writeRefusal (length b) v ≡ 0)
+    × (afterWriting b v ≡ b)) (sym (both .1)) (read-is-written b bytes (both .0))
 
 -- bits that no field names keep what they held
 pub unnamed-kept : (v b : List ℕ) (i : ℕ) → unnamed i fields1985 → bitAt (afterWriting b v) i ≡ bitAt b i

@@ -38,8 +38,8 @@ fn line(
     }
 }
 
-// The line of a rate, or a line of zeros where no line has it. Each line is a branch: a search through an array of lines would first
-// write the whole array to memory, at each call.
+// The line of a rate, or a line of zeros where no line has it. Each line is a branch: a search through an array of lines would
+// first write the whole array to memory, at each call.
 pub fn sample_rate_of(hz: u64) -> SampleRate
     ensures { λ r. ⌜ r ≡ sampleRateOf hz ⌝ }
 {
@@ -77,8 +77,8 @@ pub fn interval_us(rate: SampleRate) -> u64
     SECOND_US / rate.hz
 }
 
-// What follows from a rate, beside the refusal: the samples a channel has in a record, the records of a second, and the microseconds
-// from a sample to the next; with 5, for a number that is no rate, they are 0.
+// What follows from a rate, beside the refusal: the samples a channel has in a record, the records of a second, and the
+// microseconds from a sample to the next; with 5, for a number that is no rate, they are 0.
 #[repr(C)]
 pub struct RateLineAnswer {
     pub refusal: u8,

@@ -27,7 +27,8 @@ samplesIn b one two three four = recordAfter (refusalFor b one two three four) b
 module _ (b : List ℕ) (one two three four : List ℤ) where
   -- OUT THEN IN changes no byte: of any bytes, with any four buffers
   pub out-then-in : ((i : ℕ) → getD b i 0 < 256)
-      → samplesIn b (samplesOut b one two three four 1) (samplesOut b one two three four 2) (samplesOut b one two three four 3) (samplesOut b one two three four 4) ≡ b
+      → samplesIn b (samplesOut b one two three four 1) (samplesOut b one two three four 2) (samplesOut b one two three four 3)
+      (samplesOut b one two three four 4) ≡ b
   unfolding channelOf
   out-then-in bytes = back b one two three four bytes
 
@@ -45,6 +46,7 @@ module _ (b : List ℕ) (one two three four : List ℤ) where
     -- (mag x < 128 says that x is from -128 to 127, as a signed byte is)
     pub in-then-out : (w x y z : List ℤ) → refusalFor b w x y z ≡ 0
         → (c : ℕ) → 1 ≤ c → c ≤ 4 → ((k : ℕ) → mag (getD (channelOf one two three four c) k (pos 0)) < 128)
-        → samplesOut (samplesIn b one two three four) w x y z c ≡ take (sampleCount b) (channelOf one two three four c) ++ drop (sampleCount b) (channelOf w x y z c)
+        → samplesOut (samplesIn b one two three four) w x y z c ≡ take (sampleCount b) (channelOf one two three four c)
+        ++ drop (sampleCount b) (channelOf w x y z c)
     in-then-out w x y z e c l h signed =
         written-samples b one two three four accepted c l h signed _ (channelOf w x y z c) (refusal-kept w x y z ∙ e)

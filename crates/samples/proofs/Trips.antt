@@ -46,7 +46,8 @@ module _ (b : List ℕ) (one two three four : List ℤ) where
   enough z = room b (length one) (length two) (length three) (length four) refl z
 
   -- the way in is judged as the way out was
-  pub refusal-again : samplesRefusal b (length (out 1 one)) (length (out 2 two)) (length (out 3 three)) (length (out 4 four)) ≡ refusal
+  pub refusal-again : samplesRefusal b (length (out 1 one)) (length (out 2 two)) (length (out 3 three)) (length (out 4 four))
+      ≡ refusal
   refusal-again =
       let p = buffer-length refusal b 1 one (λ z. enough z .first) in
       let q = buffer-length refusal b 2 two (λ z. enough z .second) in
@@ -59,14 +60,18 @@ module _ (b : List ℕ) (one two three four : List ℤ) where
     no-refusal z =
         let inside = enough z .inside in
         record-by refusal b z (out 1 one) (out 2 two) (out 3 three) (out 4 four)
-        ∙ (λ i. withStretch b (interleaved (sampleCount b) (buffer-by refusal b z 1 one i) (buffer-by refusal b z 2 two i) (buffer-by refusal b z 3 three i) (buffer-by refusal b z 4 four i)))
-        ∙ ap (withStretch b) (buffers-in (stretchOf b) (sampleCount b) (length-stretch b inside) (stretch-bytes b inside bytes) one two three four)
+        ∙ (λ i. withStretch b (interleaved (sampleCount b) (buffer-by refusal b z 1 one i) (buffer-by refusal b z 2 two i)
+        (buffer-by refusal b z 3 three i) (buffer-by refusal b z 4 four i)))
+        ∙ ap (withStretch b) (buffers-in (stretchOf b) (sampleCount b) (length-stretch b inside)
+        (stretch-bytes b inside bytes) one two three four)
         ∙ same-stretch b inside
 
-    pub back : recordAfter (samplesRefusal b (length (out 1 one)) (length (out 2 two)) (length (out 3 three)) (length (out 4 four))) b (out 1 one) (out 2 two) (out 3 three) (out 4 four) ≡ b
+    pub back : recordAfter (samplesRefusal b (length (out 1 one)) (length (out 2 two)) (length (out 3 three))
+        (length (out 4 four))) b (out 1 one) (out 2 two) (out 3 three) (out 4 four) ≡ b
     back =
         ap (λ (r : ℕ). recordAfter r b (out 1 one) (out 2 two) (out 3 three) (out 4 four)) refusal-again
-        ∙ ⊎-elim no-refusal (λ s. sym (record-kept refusal b s (out 1 one) (out 2 two) (out 3 three) (out 4 four))) (none-or-some refusal)
+        ∙ ⊎-elim no-refusal (λ s. sym (record-kept refusal b s (out 1 one) (out 2 two) (out 3 three) (out 4 four)))
+        (none-or-some refusal)
 
   -- ## in, then out
 
@@ -101,7 +106,8 @@ module _ (b : List ℕ) (one two three four : List ℤ) where
     in-channel : (c : ℕ) → 1 ≤ c → c ≤ 4 → sampleCount b ≤ length (channelOf one two three four c)
     in-channel c l h =
         let r = enough none in
-        each-channel (λ (x : List ℤ). sampleCount b ≤ length x) one two three four (r .first) (r .second) (r .third) (r .fourth) c l h
+        each-channel (λ (x : List ℤ). sampleCount b ≤ length x) one two three four (r .first) (r .second) (r .third)
+        (r .fourth) c l h
 
     pub written-samples : (c : ℕ) → 1 ≤ c → c ≤ 4 → ((k : ℕ) → mag (getD (channelOf one two three four c) k (pos 0)) < 128)
         → (r : ℕ) (buffer : List ℤ) → r ≡ 0

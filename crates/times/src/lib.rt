@@ -1,5 +1,5 @@
-// When a sample was taken, and the phases of a record. FORMAT, "Times and phases". Every public function takes any bytes; a refusal
-// is a number.
+// When a sample was taken, and the phases of a record. FORMAT, "Times and phases". Every public function takes any bytes; a
+// refusal is a number.
 ghost use mathlib.Core.Path.{_≡_};
 ghost use Prim.Native.Nat.{_^_, _≤_, _<_};
 ghost use Rattle.sample_rates.specs.Rates.{mostSamples, secondUs};

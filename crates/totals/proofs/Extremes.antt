@@ -43,7 +43,8 @@ module _ {Before : ℤ → ℤ → Type 0} {rule : ℤ → ℤ → ℤ} (p : Pic
       let top : Before (foldl rule (rule x y) l) (rule x y) = fold-first (rule x y) l (rule x y) (List·Memᴰ·head refl) in
       ⊎-elim
       (λ e. rw e (p .trans top (p .left x y)))
-      (λ k. ⊎-elim (λ e. rw e (p .trans top (p .right x y))) (λ j. fold-first (rule x y) l z (List·Memᴰ·tail j)) (List·Memᴰ·cases-cons k))
+      (λ k. ⊎-elim (λ e. rw e (p .trans top (p .right x y))) (λ j. fold-first (rule x y) l z (List·Memᴰ·tail j))
+      (List·Memᴰ·cases-cons k))
       (List·Memᴰ·cases-cons m)
 
   -- what is kept of all samples is one of them, comes before each, and is a signed byte where they are

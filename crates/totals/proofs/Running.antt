@@ -63,7 +63,8 @@ running-room l h n = record { sums = omega (arith, sum-bound l h); squared = ome
 -- a channel's next total, for its sample k
 channel-more : (s : List ℕ) (c k : ℕ) → nextOf (runningOf (samplesOf s c k)) (sampleOf s c k) ≡ runningOf (samplesOf s c (k + 1))
 channel-more s c k =
-    sym (running-more (samplesOf s c k) (sampleOf s c k)) ∙ ap runningOf (sym (samples-more s c k) ∙ ap (λ (n : ℕ). samplesOf s c n) (sym (add-one k)))
+    sym (running-more (samplesOf s c k) (sampleOf s c k))
+    ∙ ap runningOf (sym (samples-more s c k) ∙ ap (λ (n : ℕ). samplesOf s c n) (sym (add-one k)))
 
 -- the running totals, with sample k taken by channels 1 to c
 unfoldable pub taken : List ℕ → ℕ → ℕ → List Total

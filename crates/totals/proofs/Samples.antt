@@ -45,4 +45,5 @@ samples-bytes stretch channel n = tab-bytes (sampleOf stretch channel) (λ k. si
 
 pub samples-more : (stretch : List ℕ) (channel n : ℕ)
     → samplesOf stretch channel (suc n) ≡ samplesOf stretch channel n ++ sampleOf stretch channel n ∷ []
-samples-more stretch channel n = tab-more (sampleOf stretch channel) 0 n ∙ ap (λ (j : ℕ). samplesOf stretch channel n ++ sampleOf stretch channel j ∷ []) (zero-add n)
+samples-more stretch channel n = tab-more (sampleOf stretch channel) 0 n
+    ∙ ap (λ (j : ℕ). samplesOf stretch channel n ++ sampleOf stretch channel j ∷ []) (zero-add n)

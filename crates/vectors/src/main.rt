@@ -1,5 +1,5 @@
-// Cases worked by hand that are run, not proved (FORMAT, "Cases worked by hand"): each line says what was asked and the refusal number,
-// 0 for none. The others are proved in crate `worked_cases`.
+// Cases worked by hand that are run, not proved (FORMAT, "Cases worked by hand"): each line says what was asked and the refusal
+// number, 0 for none. The others are proved in crate `worked_cases`.
 use index_model::Opening;
 use index_model::WIDTH;
 use index_open::OpenAnswer;

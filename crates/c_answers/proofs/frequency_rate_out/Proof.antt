@@ -9,7 +9,8 @@ use Rattle.c_answers.proofs.frequency_rate_out.Tie as tie
 
 returns : tie.Need-returns
 returns c =
-    ap (λ (x : ℤ). record { refusal = 0; units = x }) (toZ-ofZ (search needs)) ∙ ap frequencyRateOut (sym (c .before .answer .given .1))
+    ap (λ (x : ℤ). record { refusal = 0; units = x }) (toZ-ofZ (search needs))
+    ∙ ap frequencyRateOut (sym (c .before .answer .given .1))
 
 returns-2 : tie.Need-returns-2
 returns-2 c = ap frequencyRateOut (sym (c .before .answer2 .given .1))

@@ -9,7 +9,8 @@ use Rattle.c_answers.proofs.segment_bytes.Statement.{statement}
 use Rattle.c_answers.proofs.segment_bytes.Tie as tie
 
 abbrev Inv-loop : tie.InvT-loop
-Inv-loop bytes copy₀ k₀ copy k = (k ≤ longestSegment) × (length copy₀ ≡ longestSegment) × Filled copy₀ (λ (j : ℕ). getD bytes j 0) 0 k copy
+Inv-loop bytes copy₀ k₀ copy k = (k ≤ longestSegment) × (length copy₀ ≡ longestSegment)
+    × Filled copy₀ (λ (j : ℕ). getD bytes j 0) 0 k copy
 
 abbrev μ-loop : tie.MeasureT-loop
 μ-loop bytes copy₀ k₀ copy k = longestSegment - k

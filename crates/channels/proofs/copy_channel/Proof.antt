@@ -22,7 +22,8 @@ loop-holds c = (search needs, filled-none _ _ _)
 loop-again : tie.Need-loop-again Inv-loop μ-loop
 loop-again c = (
   search needs,
-  filled-more _ (search needs) (toZ-ofZ w8 (c .signed .result) (record { sfits = c .signed .ok }) ∙ c .signed .ensures) (c .before .before .before .loop .inv .1),
+  filled-more _ (search needs) (toZ-ofZ w8 (c .signed .result) (record { sfits = c .signed .ok })
+      ∙ c .signed .ensures) (c .before .before .before .loop .inv .1),
 )
 
 returns : tie.Need-returns Inv-loop μ-loop

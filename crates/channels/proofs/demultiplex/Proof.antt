@@ -17,7 +17,8 @@ returns : tie.Need-returns
 returns c =
     let a = c .before .before .args in
     let rule = sampleOf (now (a .stretch)) (a .channel) in
-    sym (ap (λ (t : Bool). over (now (a .out)) rule (cond t 0 (min (length (now (a .stretch)) / 4) (length (now (a .out)))))) (c .if1 .taken) ∙ over-none (now (a .out)) rule)
+    sym (ap (λ (t : Bool). over (now (a .out)) rule (cond t 0 (min (length (now (a .stretch)) / 4) (length (now (a .out))))))
+    (c .if1 .taken) ∙ over-none (now (a .out)) rule)
 
 copy-channel-requires : tie.Need-copy-channel-requires
 copy-channel-requires c κs =
@@ -27,7 +28,10 @@ copy-channel-requires c κs =
     let bytes = length (now (a .stretch)) in
     let places = length (now (a .out)) in (
       (ltb-false (a .channel) 1 (n .0), ltb-false 4 (a .channel) (n .1)),
-      (stretch-has bytes places (s .lesser .result) (s .lesser .ensures), buffer-holds bytes places (s .lesser .result) (s .lesser .ensures)),
+      (
+        stretch-has bytes places (s .lesser .result) (s .lesser .ensures),
+        buffer-holds bytes places (s .lesser .result) (s .lesser .ensures),
+      ),
     )
 
 returns-2 : tie.Need-returns-2
@@ -38,7 +42,8 @@ returns-2 c =
     let rule = sampleOf (now (a .stretch)) (a .channel) in
     k .copy-channel .ensures
     ∙ ap (over (now (a .out)) rule) (s .lesser .ensures)
-    ∙ sym (ap (λ (t : Bool). over (now (a .out)) rule (cond t 0 (min (length (now (a .stretch)) / 4) (length (now (a .out)))))) (s .before .if1 .left))
+    ∙ sym (ap (λ (t : Bool). over (now (a .out)) rule (cond t 0 (min (length (now (a .stretch)) / 4) (length (now (a .out))))))
+    (s .before .if1 .left))
 
 pub demultiplex-spec : {M : Type 1} → statement M
 demultiplex-spec = tie.close (tie.spec returns (λ c κs. search needs) copy-channel-requires (λ c. search needs) returns-2)

@@ -18,7 +18,8 @@ sub-result-2 c = complement-fits (255 - c .before .args .byte) (omega arith)
 returns-2 : tie.Need-returns-2
 returns-2 c =
     let n = 255 - c .before .args .byte in
-    toZ-ofZ w8 _ (complement-fits n (omega arith)) ∙ complement-of n (omega arith) ∙ sym (signed-high (c .before .args .byte) (omega arith))
+    toZ-ofZ w8 _ (complement-fits n (omega arith)) ∙ complement-of n (omega arith)
+    ∙ sym (signed-high (c .before .args .byte) (omega arith))
 
 pub signed-spec : {M : Type 1} → statement M
 signed-spec = tie.close (tie.spec (λ c. search needs) returns (λ c. search needs) (λ c. search needs) sub-result-2 returns-2)

@@ -29,4 +29,8 @@ returns c =
     ∙ (λ i. frequencyRateUnits (d .read-field .ensures i) (p .read-field2 .ensures i) (s .read-field3 .ensures i))
 
 pub frequency-rate-of-spec : {M : Type 1} → statement M
-frequency-rate-of-spec = tie.close (tie.spec (λ c κs. search needs) (λ c κs. search needs) (λ c κs. search needs) frequency-rate-units-requires returns)
+frequency-rate-of-spec =
+    tie.close
+    (tie.spec
+    (λ c κs. search needs) (λ c κs. search needs) (λ c κs. search needs) frequency-rate-units-requires
+    returns)

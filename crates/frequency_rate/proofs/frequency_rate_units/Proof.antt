@@ -10,10 +10,18 @@ ten-to-requires : tie.Need-ten-to-requires
 ten-to-requires c κs = search needs
 
 mul-size : tie.Need-mul-size
-mul-size c = let t = c in let a = t .before .args in omega (arith, size-bound (a .digits) (t .ten-to .result) (search needs) (search needs))
+mul-size c = let t = c in let a = t .before .args in omega (
+  arith,
+  size-bound (a .digits) (t .ten-to .result) (search needs) (search needs),
+)
 
 cast-size : tie.Need-cast-size
-cast-size c = let t = c in let a = t .before .args in record { sfits = omega (arith, size-bound (a .digits) (t .ten-to .result) (search needs) (search needs)) }
+cast-size c = let t = c in let a = t .before .args in record {
+  sfits = omega (
+    arith,
+    size-bound (a .digits) (t .ten-to .result) (search needs) (search needs),
+  );
+}
 
 returns : tie.Need-returns
 returns c =

@@ -34,7 +34,11 @@ loop-again : tie.Need-loop-again Inv-loop μ-loop
 loop-again c = (search needs, omega (arith, ten-more (c .before .loop .k)))
 
 returns : tie.Need-returns Inv-loop μ-loop
-returns c = let e : c .before .loop .k ≡ c .before .before .args .power = omega arith in (c .before .loop .inv .1 ∙ ap (λ (n : ℕ). 10 ^ n) e, omega (arith, seven-at-most (c .before .loop .k) (omega arith)))
+returns c = let e : c .before .loop .k ≡ c .before .before .args .power = omega arith in (
+  c .before .loop .inv .1
+      ∙ ap (λ (n : ℕ). 10 ^ n) e,
+  omega (arith, seven-at-most (c .before .loop .k) (omega arith)),
+)
 
 pub ten-to-spec : {M : Type 1} → statement M
 ten-to-spec =

@@ -24,7 +24,8 @@ returns-2 c =
     let ask = count .before .before .before in
     let a = ask .before .before .before .args in
     let second = shownSecond (ask .query .result) in
-    (λ t. accepted ((c .each-means .ensures ∙ (λ u. eachMeans (second .value .channels) (count .samples-in-records .ensures .0 u))) t))
+    (λ t. accepted ((c .each-means .ensures ∙ (λ u. eachMeans (second .value .channels)
+    (count .samples-in-records .ensures .0 u))) t))
     ∙ unless-none (second .number) noMeansEach (secondMeans (a .o) (second .value)) (count .before .if1 .left)
     ∙ ap (meansBy (a .o)) (ask .query .ensures .0)
 

@@ -12,7 +12,8 @@ returns c =
     let t = s .before .before .before in
     let p = t .pre in
     let k = s .stretch-in .ensures in (
-      ap accepted (k .bytes) ∙ new-in-this (now (t .args .this)) (now (t .args .earlier)) (t .args .row) (p .0) (p .1) (p .2) (sym (k .new) ∙ c .if1 .taken),
+      ap accepted (k .bytes) ∙ new-in-this (now (t .args .this)) (now (t .args .earlier)) (t .args .row) (p .0) (p .1) (p .2)
+          (sym (k .new) ∙ c .if1 .taken),
       (k .order, k .inside),
     )
 

@@ -14,8 +14,11 @@ unfolding segmentAnswer
 returns c =
     let n = c .before in
     let a = n .before .before .before .args in
-    let n-is = n .refusal-of .ensures in
-    (ap (refused []) n-is ∙ this-refused (now (a .this)) (now (a .earlier)) (segmentRow (a .number)) (λ z. c .if1 .taken (n-is ∙ z)), tt)
+    let n-is = n .refusal-of .ensures in (
+      ap (refused []) n-is ∙ this-refused (now (a .this)) (now (a .earlier)) (segmentRow (a .number))
+          (λ z. c .if1 .taken (n-is ∙ z)),
+      tt,
+    )
 
 returns-2 : tie.Need-returns-2
 unfolding segmentAnswer
@@ -25,7 +28,8 @@ returns-2 c =
     let a = n .before .before .before .args in
     let m-is = m .refusal-of2 .ensures in (
       ap (refused []) m-is
-          ∙ earlier-refused (now (a .this)) (now (a .earlier)) (segmentRow (a .number)) (sym (n .refusal-of .ensures) ∙ m .before .if1 .left) (λ z. c .if2 .taken (m-is ∙ z)),
+          ∙ earlier-refused (now (a .this)) (now (a .earlier)) (segmentRow (a .number)) (sym (n .refusal-of .ensures)
+          ∙ m .before .if1 .left) (λ z. c .if2 .taken (m-is ∙ z)),
       tt,
     )
 
@@ -36,8 +40,11 @@ returns-3 c =
     let n = m .before .before in
     let a = n .before .before .before .args in
     let p = sym (n .refusal-of .ensures) ∙ m .before .if1 .left in
-    let q = sym (m .refusal-of2 .ensures) ∙ c .before .before .if2 .left in
-    (no-segment (now (a .this)) (now (a .earlier)) (segmentRow (a .number)) p q (sym (c .before .segment-row .ensures .0) ∙ c .if3 .taken), tt)
+    let q = sym (m .refusal-of2 .ensures) ∙ c .before .before .if2 .left in (
+      no-segment (now (a .this)) (now (a .earlier)) (segmentRow (a .number)) p q (sym (c .before .segment-row .ensures .0)
+          ∙ c .if3 .taken),
+      tt,
+    )
 
 returns-4 : tie.Need-returns-4
 unfolding segmentAnswer

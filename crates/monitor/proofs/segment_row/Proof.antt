@@ -23,7 +23,8 @@ returns c =
     let w = c .before in
     let l = w .before .before in
     let e =
-    found segments (l .before .args .number) (l .loop .row) (search needs) (ap segmentNumber (sym (w .words-of .ensures .0)) ∙ c .if1 .taken) in
+    found segments (l .before .args .number) (l .loop .row) (search needs) (ap segmentNumber (sym (w .words-of .ensures .0))
+    ∙ c .if1 .taken) in
     (omega (arith, e, l .loop .inv .1), search needs)
 
 loop-again : tie.Need-loop-again Inv-loop μ-loop

@@ -11,7 +11,8 @@ unfolding frequencyRateAnswer
 returns c =
     let f = c .before in
     let b = now (f .before .before .args .bytes) in
-    frequency-rate-told (recordRefusal b) (frequencyRateOf b) (f .frequency-rate .result) (f .frequency-rate .ensures) (c .frequency-rate-out .ensures)
+    frequency-rate-told (recordRefusal b) (frequencyRateOf b) (f .frequency-rate .result) (f .frequency-rate .ensures)
+    (c .frequency-rate-out .ensures)
 
 pub odr-frequency-rate-spec : {M : Type 1} → statement M
 odr-frequency-rate-spec = tie.close (tie.spec (λ c κs. search needs) (λ c κs. search needs) returns)

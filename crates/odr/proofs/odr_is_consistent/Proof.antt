@@ -14,7 +14,8 @@ returns c =
     let a = t .before .before .before .args in
     let o = a .opening in
     let l = lent (now (a .rows)) (now (a .seconds)) in
-    consistency-told (openingRefusal o l) (isConsistent o l) (t .is-consistent .result) (t .is-consistent .ensures) (c .consistency-out .ensures)
+    consistency-told (openingRefusal o l) (isConsistent o l) (t .is-consistent .result) (t .is-consistent .ensures)
+    (c .consistency-out .ensures)
 
 pub odr-is-consistent-spec : {M : Type 1} → statement M
 odr-is-consistent-spec = tie.close (tie.spec (λ c κs. search needs) (λ c κs. search needs) returns)

@@ -18,7 +18,8 @@ returns c =
     let a = c .before .before .before .args in
     let b = now (a .bytes) in
     let e = c .before .refusal-of .ensures in
-    let p = ap (λ (n : ℕ). refused noValues n) e ∙ unless-some (recordRefusal b) noValues (readAll fields1985 b) (λ z. c .if1 .taken (e ∙ z)) in
+    let p = ap (λ (n : ℕ). refused noValues n) e ∙ unless-some (recordRefusal b) noValues (readAll fields1985 b)
+    (λ z. c .if1 .taken (e ∙ z)) in
     (ap (λ (x : Answer (List ℕ)). x .number) p, ap (valueOr (a .values .now)) p)
 
 returns-2 : tie.Need-returns-2

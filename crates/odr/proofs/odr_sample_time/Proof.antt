@@ -11,7 +11,8 @@ returns c =
     let t = c .before in
     let a = t .before .before .args in
     let b = now (a .bytes) in
-    time-told (timeRefusal b (a .k)) (sampleTime b (a .k)) (t .sample-time .result) (t .sample-time .ensures) (c .time-out .ensures)
+    time-told (timeRefusal b (a .k)) (sampleTime b (a .k)) (t .sample-time .result) (t .sample-time .ensures)
+    (c .time-out .ensures)
 
 pub odr-sample-time-spec : {M : Type 1} → statement M
 odr-sample-time-spec = tie.close (tie.spec (λ c κs. search needs) (λ c κs. search needs) returns)

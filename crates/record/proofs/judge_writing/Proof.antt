@@ -20,4 +20,9 @@ returns c =
     c .first-refusal .ensures ∙ (λ i. reading i then wide i)
 
 pub judge-writing-spec : {M : Type 1} → statement M
-judge-writing-spec = tie.close (tie.spec (λ c κs. search needs) (λ c κs. search needs) (λ c κs. search needs) (λ c κs. search needs) (λ c κs. search needs) returns)
+judge-writing-spec =
+    tie.close
+    (tie.spec
+    (λ c κs. search needs) (λ c κs. search needs) (λ c κs. search needs) (λ c κs. search needs)
+    (λ c κs. search needs)
+    returns)

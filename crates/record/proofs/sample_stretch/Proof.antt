@@ -17,8 +17,14 @@ returns c =
     let n = s .before in
     let b = now (n .before .before .args .bytes) in
     (λ i. take (e .lesser2 .ensures i - s .lesser .ensures i) (drop (s .lesser .ensures i) b))
-    ∙ ap (λ (k : ℕ). take (min (headerBytes + 4 * k) (length b) - min headerBytes (length b)) (drop (min headerBytes (length b)) b)) (n .sample-count .ensures .0)
+    ∙ ap (λ (k : ℕ). take (min (headerBytes + 4 * k) (length b) - min headerBytes (length b))
+    (drop (min headerBytes (length b)) b)) (n .sample-count .ensures .0)
     ∙ clipped b headerBytes (4 * sampleCount b)
 
 pub sample-stretch-spec : {M : Type 1} → statement M
-sample-stretch-spec = tie.close (tie.spec (λ c κs. search needs) (λ c κs. search needs) (λ c. search needs) (λ c. search needs) (λ c κs. search needs) (λ c. search needs) (λ c. search needs) (λ c. search needs) returns)
+sample-stretch-spec =
+    tie.close
+    (tie.spec
+    (λ c κs. search needs) (λ c κs. search needs) (λ c. search needs) (λ c. search needs)
+    (λ c κs. search needs) (λ c. search needs) (λ c. search needs) (λ c. search needs)
+    returns)

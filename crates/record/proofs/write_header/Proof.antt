@@ -25,16 +25,22 @@ returns c =
     let t = w .before .before in
     let a = t .before .before .before .args in
     let b = now (a .bytes) in
-    let e = sym (t .before .judge-writing .ensures) ∙ t .if1 .taken in
-    (sym e, w .write-values .ensures ∙ sym (cond-none (writeRefusal (length b) (a .values)) b (writeAll fields1985 (a .values) b) e))
+    let e = sym (t .before .judge-writing .ensures) ∙ t .if1 .taken in (
+      sym e,
+      w .write-values .ensures ∙ sym (cond-none (writeRefusal (length b) (a .values)) b
+          (writeAll fields1985 (a .values) b) e),
+    )
 
 returns-2 : tie.Need-returns-2
 unfolding afterWriting
 returns-2 c =
     let j = c .before in
     let a = j .before .before .args in
-    let b = now (a .bytes) in
-    (j .judge-writing .ensures, sym (cond-some (writeRefusal (length b) (a .values)) b (writeAll fields1985 (a .values) b) (λ z. c .if1 .left (j .judge-writing .ensures ∙ z))))
+    let b = now (a .bytes) in (
+      j .judge-writing .ensures,
+      sym (cond-some (writeRefusal (length b) (a .values)) b (writeAll fields1985 (a .values) b)
+          (λ z. c .if1 .left (j .judge-writing .ensures ∙ z))),
+    )
 
 pub write-header-spec : {M : Type 1} → statement M
 write-header-spec =

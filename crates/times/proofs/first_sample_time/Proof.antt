@@ -10,8 +10,11 @@ use Rattle.times.proofs.first_sample_time.Statement.{statement}
 use Rattle.times.proofs.first_sample_time.Tie as tie
 
 time-of-requires : tie.Need-time-of-requires
-time-of-requires c κs =
-    (subst (λ (n : ℕ). n < 2 ^ 27) (sym (c .read-field .ensures)) (value-lt timeTag _ refl), c .before .interval-us .ensures .1, omega arith)
+time-of-requires c κs = (
+  subst (λ (n : ℕ). n < 2 ^ 27) (sym (c .read-field .ensures)) (value-lt timeTag _ refl),
+  c .before .interval-us .ensures .1,
+  omega arith,
+)
 
 returns : tie.Need-returns
 unfolding sampleTime
@@ -22,4 +25,8 @@ returns c =
     c .time-of .ensures ∙ (λ i. timeOf (t .read-field .ensures i) (interval i) 0)
 
 pub first-sample-time-spec : {M : Type 1} → statement M
-first-sample-time-spec = tie.close (tie.spec (λ c κs. search needs) (λ c κs. search needs) (λ c κs. search needs) time-of-requires returns)
+first-sample-time-spec =
+    tie.close
+    (tie.spec
+    (λ c κs. search needs) (λ c κs. search needs) (λ c κs. search needs) time-of-requires
+    returns)

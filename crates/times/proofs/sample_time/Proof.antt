@@ -19,14 +19,16 @@ use Rattle.times.proofs.sample_time.Tie as tie
 
 -- the refusal that was worked out
 refusal-is : (c : tie.After-first-refusal)
-    → c .first-refusal .result ≡ timeRefusal (now (c .before .before .before .before .before .before .args .bytes)) (c .before .before .before .before .before .before .args .k)
+    → c .first-refusal .result ≡ timeRefusal (now (c .before .before .before .before .before .before .args .bytes))
+    (c .before .before .before .before .before .before .args .k)
 unfolding timeRefusal
 refusal-is c =
     let r = c .before in
     let m = r .before in
     let line = m .before .before in
     let k = line .before .before .args .k in
-    let missing = m .check .ensures ∙ ap (λ (l : SampleRate). first (12 when not (ltb k (samplesPerRecord l)) ∷ [])) (line .rate-of .ensures) in
+    let missing = m .check .ensures ∙ ap (λ (l : SampleRate). first (12 when not (ltb k (samplesPerRecord l)) ∷ []))
+    (line .rate-of .ensures) in
     c .first-refusal .ensures ∙ (λ i. r .refusal-of .ensures i then missing i)
 
 returns : tie.Need-returns
@@ -52,8 +54,14 @@ returns-2 c =
     let z = n .before in
     let line = z .before .before .before .before .before in
     let interval = n .interval-us .ensures .0 ∙ ap intervalUs (line .rate-of .ensures) in
-    ap (λ (x : ℕ). accepted x) (c .time-of .ensures ∙ (λ i. timeOf (t .read-field .ensures i) (interval i) (line .before .before .args .k)))
+    ap (λ (x : ℕ). accepted x) (c .time-of .ensures
+    ∙ (λ i. timeOf (t .read-field .ensures i) (interval i) (line .before .before .args .k)))
     ∙ unless-none _ 0 _ (sym (refusal-is (z .before)) ∙ z .if1 .left)
 
 pub sample-time-spec : {M : Type 1} → statement M
-sample-time-spec = tie.close (tie.spec (λ c κs. search needs) (λ c κs. search needs) (λ c κs. search needs) (λ c κs. search needs) returns (λ c κs. search needs) (λ c κs. search needs) time-of-requires returns-2)
+sample-time-spec =
+    tie.close
+    (tie.spec
+    (λ c κs. search needs) (λ c κs. search needs) (λ c κs. search needs) (λ c κs. search needs) returns
+    (λ c κs. search needs) (λ c κs. search needs) time-of-requires
+    returns-2)

@@ -16,7 +16,10 @@ mul-result c =
 cast-result : tie.Need-cast-result
 cast-result c =
     let f = c .fits .sample in
-    rw (widens w64 (sfits-widen tt f) f, toZ-ofZ (square-fits f), square (c .args .sample)) (tt, record { fits = omega (arith, byte-square f) })
+    rw (widens w64 (sfits-widen tt f) f, toZ-ofZ (square-fits f), square (c .args .sample)) (
+      tt,
+      record { fits = omega (arith, byte-square f) },
+    )
 
 returns : tie.Need-returns
 returns c =

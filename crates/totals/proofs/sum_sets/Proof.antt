@@ -33,7 +33,8 @@ returns-2 c =
     let a = c .before .before .before .before in
     let l = c .before .loop in
     let e : l .k ≡ a .args .count = omega arith in
-    l .inv .1 ∙ ap (runningsOf (a .args .stretch .now)) e ∙ runnings-totals (a .args .stretch .now) (a .args .count) (pos-of-ne-zero (c .before .before .if1 .left))
+    l .inv .1 ∙ ap (runningsOf (a .args .stretch .now)) e
+    ∙ runnings-totals (a .args .stretch .now) (a .args .count) (pos-of-ne-zero (c .before .before .if1 .left))
 
 pub sum-sets-spec : {M : Type 1} → statement M
 sum-sets-spec =

@@ -7,7 +7,11 @@ use Rattle.totals.proofs.with_channel.Tie as tie
 
 returns : tie.Need-returns
 unfolding channelNext
-returns c = rw (c .with .ensures, toZ-ofZ {w = w8} {z = c .before .sample .result} (record { sfits = c .before .sample .ok }), c .before .sample .ensures)
+returns c = rw (
+  c .with .ensures,
+  toZ-ofZ {w = w8} {z = c .before .sample .result} (record { sfits = c .before .sample .ok }),
+  c .before .sample .ensures,
+)
 
 pub with-channel-spec : {M : Type 1} → statement M
 with-channel-spec =

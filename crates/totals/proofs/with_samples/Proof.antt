@@ -18,14 +18,17 @@ next : {t r : List Total} (s : List ℕ) (k c : ℕ) → t ≡ taken s k c → r
 unfolding taken
 next s k c e q = q ∙ ap (λ (t : List Total). channelNext t s (suc c) k) e
 
-first : (c : tie.After-with-channel) → let a = c .before .before .args in c .with-channel .result ≡ taken (a .stretch .now) (a .k) 1
+first : (c : tie.After-with-channel) → let a = c .before .before .args in c .with-channel .result
+    ≡ taken (a .stretch .now) (a .k) 1
 unfolding taken
 first c = next _ _ 0 (c .before .before .pre .0) (c .with-channel .ensures)
 
-second : (c : tie.After-with-channel2) → let a = c .before .before .before .args in c .with-channel2 .result ≡ taken (a .stretch .now) (a .k) 2
+second : (c : tie.After-with-channel2) → let a = c .before .before .before .args in c .with-channel2 .result
+    ≡ taken (a .stretch .now) (a .k) 2
 second c = next _ _ 1 (first (c .before)) (c .with-channel2 .ensures)
 
-third : (c : tie.After-with-channel3) → let a = c .before .before .before .before .args in c .with-channel3 .result ≡ taken (a .stretch .now) (a .k) 3
+third : (c : tie.After-with-channel3) → let a = c .before .before .before .before .args in c .with-channel3 .result
+    ≡ taken (a .stretch .now) (a .k) 3
 third c = next _ _ 2 (second (c .before)) (c .with-channel3 .ensures)
 
 with-channel-requires : tie.Need-with-channel-requires
@@ -36,7 +39,12 @@ with-channel-requires-2 : tie.Need-with-channel-requires-2
 with-channel-requires-2 c κs = let p = c .before .before .pre in (lit≤ tt, lit≤ tt, p .1, room _ _ 1 (first c) (p .2) (lit< tt))
 
 with-channel-requires-3 : tie.Need-with-channel-requires-3
-with-channel-requires-3 c κs = let p = c .before .before .before .pre in (lit≤ tt, lit≤ tt, p .1, room _ _ 2 (second c) (p .2) (lit< tt))
+with-channel-requires-3 c κs = let p = c .before .before .before .pre in (
+  lit≤ tt,
+  lit≤ tt,
+  p .1,
+  room _ _ 2 (second c) (p .2) (lit< tt),
+)
 
 with-channel-requires-4 : tie.Need-with-channel-requires-4
 with-channel-requires-4 c κs =

@@ -1,5 +1,5 @@
--- A walk of the MIR, by hand: a reader is made of the slice passed and 0, in the result's local. A `&[u8]` is Copy, so what it owns is
--- had twice: once for reel at exit, and once inside the result. Assumes nothing.
+-- A walk of the MIR, by hand: a reader is made of the slice passed and 0, in the result's local. A `&[u8]` is Copy, so what it
+-- owns is had twice: once for reel at exit, and once inside the result. Assumes nothing.
 use mathlib.Core.Path.{refl}
 use Prim.Native.Nat.{ℕ}
 use mathlib.Core.List.{List, [], _∷_}

@@ -21,13 +21,19 @@ add-t4 c =
     let z = a .args .self .sum in
     let x = a .args .sample in
     let f : SFits w8 x = a .fits .sample in
-    rw (toZ-ofZ w64 z (room-fits (a .pre)), c .before .before .widened .ensures, toZ-ofZ w8 x f, toZ-ofZ w64 x (sfits-widen tt f)) (room-sum (a .pre) f)
+    rw (
+      toZ-ofZ w64 z (room-fits (a .pre)),
+      c .before .before .widened .ensures,
+      toZ-ofZ w8 x f,
+      toZ-ofZ w64 x (sfits-widen tt f),
+    ) (room-sum (a .pre) f)
 
 add-t6 : tie.Need-add-t6
 add-t6 c =
     let a = c .before .before .before .before .before in
     let f : SFits w8 (a .args .sample) = a .fits .sample in
-    rw (c .before .squared .ensures, toZ-ofZ w8 (a .args .sample) f) (record { fits = omega (arith, a .pre .squared, byte-square f) })
+    rw (c .before .squared .ensures, toZ-ofZ w8 (a .args .sample) f)
+    (record { fits = omega (arith, a .pre .squared, byte-square f) })
 
 returns : tie.Need-returns
 unfolding nextOf
@@ -42,10 +48,21 @@ returns c =
     let fg : SFits w8 (t .greatest) = record { sfits = c .before .struct-told3 .given .1 .1 .1 .0 .1 } in
     let back : toZ w8 (ofZ w8 x) ≡ x = toZ-ofZ w8 x f in
     let sum : wide .widened .result ≡ x = rw (wide .widened .ensures, back) in
-    let square : low .before .before .before .squared .result ≡ natAbs x * natAbs x = rw (low .before .before .before .squared .ensures, back) in
+    let square : low .before .before .before .squared .result
+    ≡ natAbs x * natAbs x = rw (low .before .before .before .squared .ensures, back) in
     let least : low .lesser .result ≡ lesser (t .least) x = rw (low .lesser .ensures, back, toZ-ofZ w8 (t .least) fl) in
     let greatest : c .greater .result ≡ greater (t .greatest) x = rw (c .greater .ensures, back, toZ-ofZ w8 (t .greatest) fg) in
-    rw (sum, square, least, greatest, toZ-ofZ w64 (t .sum) (room-fits (a .pre)), toZ-ofZ w64 x (sfits-widen tt f), toZ-ofZ w64 (t .sum +ℤ x) (room-sum (a .pre) f), toZ-ofZ w8 (lesser (t .least) x) (kept-fits lesser-picks fl f), toZ-ofZ w8 (greater (t .greatest) x) (kept-fits greater-picks fg f))
+    rw (
+      sum,
+      square,
+      least,
+      greatest,
+      toZ-ofZ w64 (t .sum) (room-fits (a .pre)),
+      toZ-ofZ w64 x (sfits-widen tt f),
+      toZ-ofZ w64 (t .sum +ℤ x) (room-sum (a .pre) f),
+      toZ-ofZ w8 (lesser (t .least) x) (kept-fits lesser-picks fl f),
+      toZ-ofZ w8 (greater (t .greatest) x) (kept-fits greater-picks fg f),
+    )
 
 pub with-spec : {M : Type 1} → statement M
 with-spec =
