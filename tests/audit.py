@@ -4,7 +4,7 @@
     audit.py [--all]
 
 - Every public function of a library has a promise (`ensures`) and none has a `requires`.
-- Every must-fail edit says in its first line which wrong program it is, and edits no proof.
+- Every must-fail edit says in its first line which wrong program it is, edits no proof, and finds each text that it replaces once.
 - docs/TRACE.md names every must-fail edit, and no edit that is not there.
 - The log of every edit that was tried, in target/must-fail, ends in the prover's refusal, and that was not given only because the
   proof no longer fits the code's shape: such a refusal shows nothing. With --all, as in the gate, every edit must have been tried.
@@ -50,6 +50,16 @@ def check_log(name, log):
         faults.append(f"{name} is refused for its shape only")
 
 
+def check_texts(name, edit, lines):
+    """Each text that the edit replaces stands once in its file."""
+    text = ""
+    for line in lines:
+        if line.startswith("file: "):
+            text = (edit.parent.parent / line[6:]).read_text(encoding="utf-8")
+        elif line.startswith("old: ") and text.count(line[5:]) != 1:
+            faults.append(f"{name} replaces a text that does not stand once: {line[5:].strip()}")
+
+
 def check_edits():
     edits = sorted(ROOT.glob("crates/*/must-fail/*.edit"))
     logs = 0
@@ -60,6 +70,7 @@ def check_edits():
             faults.append(f"{name} does not say which wrong program it is")
         if any(line.startswith("file: proofs/") for line in lines):
             faults.append(f"{name} edits a proof")
+        check_texts(name, edit, lines)
         log = ROOT / "target" / "must-fail" / name / ".log"
         if log.is_file():
             logs += 1
