@@ -51,13 +51,18 @@ def check_log(name, log):
 
 
 def check_texts(name, edit, lines):
-    """Each text that the edit replaces stands once in its file."""
-    text = ""
+    """Each text that the edit replaces stands once in its file, as the replacements before it left that."""
+    texts, file, old = {}, None, ""
     for line in lines:
         if line.startswith("file: "):
-            text = (edit.parent.parent / line[6:]).read_text(encoding="utf-8")
-        elif line.startswith("old: ") and text.count(line[5:]) != 1:
-            faults.append(f"{name} replaces a text that does not stand once: {line[5:].strip()}")
+            file = edit.parent.parent / line[6:]
+            texts.setdefault(file, file.read_text(encoding="utf-8"))
+        elif line.startswith("old: "):
+            old = line[5:]
+            if texts[file].count(old) != 1:
+                faults.append(f"{name} replaces a text that does not stand once: {old.strip()}")
+        elif line.startswith("new: "):
+            texts[file] = texts[file].replace(old, line[5:], 1)
 
 
 def check_edits():
