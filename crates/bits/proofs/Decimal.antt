@@ -1,7 +1,6 @@
 -- The laws of binary coded decimal, over the number of digits: each direction undoes the other. Assumes nothing.
 use Prim.Native.Nat.{ℕ, zero, suc, _+_, _-_, _*_, _/_, _%_, _^_, _≤_, _<_}
 use mathlib.Core.Path.{_≡_, refl, ap, sym, _∙_, subst}
-use mathlib.Core.Bool.{_&&_}
 use mathlib.Core.Logic.{⊎-elim}
 use native.Mathlib.Nat.{one-mul, pow-suc, pow-le-pow-right, div-one, div-eq-of-lt, div-lt-iff-lt-mul}
 use native.Mathlib.Numerals.{add-one}
@@ -89,37 +88,32 @@ none-left x n =
     (λ p. eq-eqb _ _ (div-eq-of-lt p) ∙ sym (lt-ltb x (10 ^ n) p))
     (le-or-lt (10 ^ n) x)
 
--- ## a loop over the digits of a code, from the most significant on
+-- ## the loop over the digits of a code, from the most significant on
 
--- F n c is what the last n digits of c make, `step` by `step`
-module _ {A : Type 0} (F : ℕ → ℕ → A) (step : A → ℕ → A) (more : (n c : ℕ) → F (suc n) c ≡ step (F n (c / 16)) (c % 16)) where
-  -- before the first digit
-  pub digits-none : (n l c : ℕ) → l ≡ n → F 0 c ≡ F (n - l) c
-  digits-none n l c e = let z : n - l ≡ 0 = omega arith in sym (ap (λ (m : ℕ). F m c) z)
-
-  -- one digit more: l are left, and then one less
-  pub digits-more : (n l c : ℕ) → 0 < l → l ≤ n
-      → step (F (n - l) (c / 2 ^ (4 * l))) (c / 2 ^ (4 * (l - 1)) % 16) ≡ F (n - (l - 1)) (c / 2 ^ (4 * (l - 1)))
-  digits-more n l c h q =
-      let x : ℕ = c / 2 ^ (4 * (l - 1)) in
-      let above : x / 16 ≡ c / 2 ^ (4 * l) = shr-shr c (4 * (l - 1)) 4 ∙ ap (λ (k : ℕ). c / 2 ^ k) (omega arith) in
-      let next : suc (n - l) ≡ n - (l - 1) = omega arith in
-      ap (λ (z : ℕ). step (F (n - l) z) (x % 16)) (sym above) ∙ sym (more (n - l) x) ∙ ap (λ (m : ℕ). F m x) next
-
-  -- after the last
-  pub digits-whole : (n l c : ℕ) → l ≡ 0 → F (n - l) (c / 2 ^ (4 * l)) ≡ F n c
-  digits-whole n l c e =
-      let m : n - l ≡ n = omega arith in
-      ap (λ (k : ℕ). F k (c / 2 ^ (4 * l))) m ∙ ap (λ (k : ℕ). F n (c / 2 ^ (4 * k))) e ∙ ap (F n) (div-one c)
-
--- the steps of the two loops, and of the recursion
-pub decimal-step : (n c : ℕ) → decimalValue (suc n) c ≡ decimalValue n (c / 16) * 10 + c % 16
+-- before the first digit
+pub digits-none : (n l c : ℕ) → l ≡ n → 0 ≡ decimalValue (n - l) c
 unfolding decimalValue
-decimal-step n c = refl
+digits-none n l c e = let z : n - l ≡ 0 = omega arith in sym (ap (λ (m : ℕ). decimalValue m c) z)
 
-pub good-step : (n c : ℕ) → digits (suc n) c ≡ digits n (c / 16) && leb (c % 16) 9
-unfolding digits
-good-step n c = refl
+-- one digit more: l are left, and then one less
+pub digits-more : (n l c : ℕ) → 0 < l → l ≤ n
+    → decimalValue (n - l) (c / 2 ^ (4 * l)) * 10 + c / 2 ^ (4 * (l - 1)) % 16
+    ≡ decimalValue (n - (l - 1)) (c / 2 ^ (4 * (l - 1)))
+unfolding decimalValue
+digits-more n l c h q =
+    let x : ℕ = c / 2 ^ (4 * (l - 1)) in
+    let above : x / 16 ≡ c / 2 ^ (4 * l) = shr-shr c (4 * (l - 1)) 4 ∙ ap (λ (k : ℕ). c / 2 ^ k) (omega arith) in
+    let next : suc (n - l) ≡ n - (l - 1) = omega arith in
+    ap (λ (z : ℕ). decimalValue (n - l) z * 10 + x % 16) (sym above) ∙ ap (λ (m : ℕ). decimalValue m x) next
+
+-- after the last
+pub digits-whole : (n l c : ℕ) → l ≡ 0 → decimalValue (n - l) (c / 2 ^ (4 * l)) ≡ decimalValue n c
+digits-whole n l c e =
+    let m : n - l ≡ n = omega arith in
+    ap (λ (k : ℕ). decimalValue k (c / 2 ^ (4 * l))) m ∙ ap (λ (k : ℕ). decimalValue n (c / 2 ^ (4 * k))) e
+    ∙ ap (decimalValue n) (div-one c)
+
+-- ## the recursion that codes
 
 pub coded-none : (n x : ℕ) → n ≡ 0 → 0 ≡ coded n x
 unfolding coded

@@ -1,4 +1,5 @@
 pub mod Bits
 pub mod Decimal
+pub mod AllDigits
 pub mod Reading
 pub mod Writing

@@ -13,6 +13,9 @@ pub const WIDEST: usize = 56;
 
 const MOST_DIGITS: usize = 14;
 
+// The lowest bit of each of the most digits.
+const DIGIT_ONES: u64 = 0x11_1111_1111_1111;
+
 fn wide(byte: u8) -> u64
     ensures { λ r. ⌜ (r ≡ byte) × (r < 256) ⌝ }
 {
@@ -155,19 +158,14 @@ fn digits_value(count: usize, code: u64) -> u64
     value
 }
 
-// Whether each of the last `count` digits of `code` is at most 9.
+// Whether each of the last `count` digits of `code` is at most 9, all judged at once: a digit above 9 has its bit of 8 set and that
+// of 4 or of 2 too.
 fn digits_good(count: usize, code: u64) -> bool
     requires { ⌜ count ≤ mostDigits ⌝ }
     ensures { λ r. ⌜ r ≡ digits count code ⌝ }
 {
-    let mut good = true;
-    let mut left = count;
-    while 0 < left {
-        left -= 1;
-        let digit = code / two_to(4 * left) % 16;
-        good = good & (digit <= 9);
-    }
-    good
+    let above = (code / 8) & ((code / 4) | (code / 2));
+    above & (DIGIT_ONES % two_to(4 * count)) == 0
 }
 
 // The code of the last `count` decimal digits of `value`.

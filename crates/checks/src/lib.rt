@@ -46,13 +46,11 @@ pub fn wrong_date(year: u64, day: u64) -> bool
 }
 
 // The number of the first check of 1 to 11 that applies, or 0. Each line has the checks after its own as what else is given, so
-// the last check comes first.
+// the last check comes first; the sample rate, whose lines are branches, is looked up only where its checks are, which leaves
+// little to be kept across them.
 pub fn first_check(j: Judged) -> u8
     ensures { λ r. ⌜ r ≡ first (checks j) ⌝ }
 {
-    let rate = sample_rates::sample_rate_of(j.sample_rate);
-    let date = wrong_date(j.year, j.day);
-    let length = wrong_length(j.bytes, j.length_words);
     let sync = answers::check(11, (j.clock_origin == 1) & (j.sync != SYNC_PATTERN), 0);
     let digits = answers::check(10, !j.decimals, sync);
     let times = answers::check(
@@ -60,13 +58,16 @@ pub fn first_check(j: Judged) -> u8
         (j.time_tag > LAST_MS) | (j.readback_tag > LAST_MS),
         digits,
     );
+    let date = wrong_date(j.year, j.day);
     let dates = answers::check(8, date, times);
     let numbers = answers::check(7, (j.tape_number == 0) | (j.record_number == 0), dates);
+    let rate = sample_rates::sample_rate_of(j.sample_rate);
     let other_size = (j.length_words != rate.words_b) & (j.length_words != rate.words_a);
     let sizes = answers::check(6, other_size, numbers);
     let rates = answers::check(5, rate.hz == 0, sizes);
     let compression = answers::check(4, j.compression != 1, rates);
     let conversion = answers::check(3, j.conversion == 1, compression);
+    let length = wrong_length(j.bytes, j.length_words);
     let lengths = answers::check(2, length, conversion);
     answers::check(1, j.bytes < header::HEADER_BYTES, lengths)
 }

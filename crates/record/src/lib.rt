@@ -25,6 +25,7 @@ pub struct HeaderAnswer {
 fn judged(bytes: &[u8]) -> Judged
     ensures { λ r. ⌜ r ≡ judgedOf (length (now (bytes .entry))) (λ f. valueOf f (now (bytes .entry))) (allDigitsGood fields1985 (now (bytes .entry))) ⌝ }
 {
+    let decimals = header::all_digits_good(bytes);
     Judged {
         bytes: bytes.len(),
         length_words: fields::read_field(bytes, header::LENGTH_WORDS),
@@ -37,7 +38,7 @@ fn judged(bytes: &[u8]) -> Judged
         day: fields::read_field(bytes, header::DAY),
         time_tag: fields::read_field(bytes, header::TIME_TAG),
         readback_tag: fields::read_field(bytes, header::READBACK_TAG),
-        decimals: header::all_digits_good(bytes),
+        decimals,
         clock_origin: fields::read_field(bytes, header::CLOCK_ORIGIN),
         sync: fields::read_field(bytes, header::SYNC),
     }

@@ -1,15 +1,12 @@
 -- The loop over the digits from the most significant on: the invariant says what the digits so far give.
 use Rattle.bits.specs.Decimal.{decimalValue}
-use Rattle.bits.proofs.Decimal.{digits-none, digits-more, digits-whole, decimal-step, decimal-small}
+use Rattle.bits.proofs.Decimal.{digits-none, digits-more, digits-whole, decimal-small}
 use mathlib.Core.Path.{_≡_, refl, _∙_, ap}
 use Prim.Native.Nat.{ℕ, _≤_, _-_, _*_, _^_, _/_, _%_, _+_}
 use native.Mathlib.Omega.{arith}
 use borrow.Author.Needs.{needs}
 use Rattle.bits.proofs.digits_value.Statement.{statement}
 use Rattle.bits.proofs.digits_value.Tie as tie
-
-abbrev step : ℕ → ℕ → ℕ
-step value digit = value * 10 + digit
 
 abbrev Inv-loop : tie.InvT-loop
 Inv-loop count code value₀ left₀ value left = (left ≤ count) × (value ≡ decimalValue (count - left) (code / 2 ^ (4 * left)))
@@ -18,10 +15,9 @@ abbrev μ-loop : tie.MeasureT-loop
 μ-loop count code value₀ left₀ value left = left
 
 loop-holds : tie.Need-loop-holds Inv-loop μ-loop
-unfolding decimalValue
 loop-holds c =
     let a = c .args in
-    (search needs, digits-none decimalValue step decimal-step (a .count) (a .count) (a .code / 2 ^ (4 * a .count)) refl)
+    (search needs, digits-none (a .count) (a .count) (a .code / 2 ^ (4 * a .count)) refl)
 
 mul-value : tie.Need-mul-value Inv-loop μ-loop
 mul-value c =
@@ -40,15 +36,15 @@ loop-again c =
     let l = c .before .before in
     let a = l .before .args in (
       search needs,
-      (λ i. step (l .loop .inv .1 i) (a .code / c .two-to .ensures .0 i % 16))
-          ∙ digits-more decimalValue step decimal-step (a .count) (l .loop .left) (a .code) (search needs) (search needs),
+      (λ i. l .loop .inv .1 i * 10 + a .code / c .two-to .ensures .0 i % 16)
+          ∙ digits-more (a .count) (l .loop .left) (a .code) (search needs) (search needs),
     )
 
 returns : tie.Need-returns Inv-loop μ-loop
 returns c =
     let l = c .before in
     let a = l .before .args in
-    l .loop .inv .1 ∙ digits-whole decimalValue step decimal-step (a .count) (l .loop .left) (a .code) (search needs)
+    l .loop .inv .1 ∙ digits-whole (a .count) (l .loop .left) (a .code) (search needs)
 
 pub digits-value-spec : {M : Type 1} → statement M
 digits-value-spec =

@@ -10,19 +10,19 @@ use Rattle.checks.proofs.first_check.Tie as tie
 returns : tie.Need-returns
 returns c =
     let c10 = c .before .before in
-    let c9 = c10 .before in
+    let length = c10 .before in
+    let c9 = length .before in
     let c8 = c9 .before .before in
     let c7 = c8 .before .before in
     let c6 = c7 .before .before in
-    let c5 = c6 .before .before .before .before .before in
+    let rate = c6 .before .before .before .before .before in
+    let c5 = rate .before in
     let c4 = c5 .before .before .before in
-    let c3 = c4 .before in
+    let date = c4 .before in
+    let c3 = date .before in
     let c2 = c3 .before .before .before in
     let c1 = c2 .before .before in
-    let length = c1 .before .before .before in
-    let date = length .before in
-    let rate = date .before in
-    let j = rate .before .args .j in
+    let j = c1 .before .before .before .args .j in
     let sync = c1 .check .ensures in
     let digits = c2 .check2 .ensures ∙ (λ i. cond (not (j .decimals)) 10 (sync i)) in
     let times = c3 .check3 .ensures ∙ (λ i. cond (ltb lastMs (j .«time_tag») || ltb lastMs (j .«readback_tag»)) 9 (digits i)) in

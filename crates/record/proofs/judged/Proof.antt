@@ -7,8 +7,7 @@ use Rattle.record.proofs.judged.Tie as tie
 returns : tie.Need-returns
 returns c =
     let c11 = c .before in
-    let digits = c11 .before in
-    let c10 = digits .before in
+    let c10 = c11 .before in
     let c9 = c10 .before in
     let c8 = c9 .before in
     let c7 = c8 .before in
@@ -18,9 +17,10 @@ returns c =
     let c3 = c4 .before in
     let c2 = c3 .before in
     let c1 = c2 .before in
+    let digits = c1 .before in
     λ i.
     record {
-      bytes = length (now (c1 .before .before .args .bytes));
+      bytes = length (now (digits .before .before .args .bytes));
       «length_words» = c1 .read-field .ensures i;
       conversion = c2 .read-field2 .ensures i;
       compression = c3 .read-field3 .ensures i;
