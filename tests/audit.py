@@ -16,7 +16,7 @@ import re
 import sys
 
 ROOT = pathlib.Path(__file__).resolve().parent.parent
-SHAPE = re.compile(r"can be named from here|parse error|unexpected token|not in scope|unknown (name|module|field)")
+SHAPE = re.compile(r"can be named from here|has no field|parse error|unexpected token|not in scope|unknown (name|module|field)")
 faults = []
 
 
