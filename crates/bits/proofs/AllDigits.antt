@@ -1,6 +1,6 @@
 -- All digits of a code judged at once: a digit is above 9 where its bit of 8 is set and that of 4 or of 2 is too. Assumes
 -- nothing.
-use Prim.Native.Nat.{ℕ, zero, suc, _+_, _*_, _/_, _%_, _^_, _≤_}
+use Prim.Native.Nat.{ℕ, zero, suc, _+_, _*_, _/_, _%_, _^_, _≤_, _<_}
 use mathlib.Core.Path.{_≡_, refl, ap, ap₂, sym, _∙_, subst}
 use mathlib.Core.Bool.{Bool, true, false, _&&_, cond}
 use native.Mathlib.Nat.{mod-lt}
@@ -9,12 +9,19 @@ use lib.Bits.{bitAnd, bitOr, and-block, and-shr, or-shr, and-mod, or-mod, and-ma
 use lib.Dec.{T, eqb, leb, eqb→eq, lit<}
 use borrow.Author.Tests.{eq-eqb, ne-eqb, eqb-true, eqb-false}
 use Rattle.lists.specs.Fill.{tab}
+use Rattle.lists.specs.Tests.{all}
 use Rattle.lists.proofs.Fill.{getD-tab}
 use Rattle.lists.proofs.Truth.{each}
 use Rattle.bits.specs.Decimal.{digits, mostDigits}
 
+-- an equation computed for each number below n
+computed : (f g : ℕ → ℕ) (n k : ℕ) → T (all (tab (λ (j : ℕ). eqb (f j) (g j)) 0 n)) → k < n → f k ≡ g k
+computed f g n k t h =
+    let right : ℕ → Bool = λ (j : ℕ). eqb (f j) (g j) in
+    eqb→eq (f k) (g k) (subst T (getD-tab right n k true h) (each (tab right 0 n) k t))
+
 -- the lowest bit of each of n digits
-ones : ℕ → ℕ
+unfoldable pub ones : ℕ → ℕ
 ones zero = 0
 ones (suc n) = ones n * 16 + 1
 
@@ -37,13 +44,12 @@ low c = and-mod (c / 8) (bitOr (c / 4) (c / 2)) 1 ∙ ap (bitAnd (c / 8 % 2)) (o
 
 one-digit : (c : ℕ) → eqb (above c % 2) 0 ≡ leb (c % 16) 9
 one-digit c =
-    let right : ℕ → Bool = λ (d : ℕ). eqb (above d % 2) (cond (leb d 9) 0 1) in
     let x : c / 8 % 2 ≡ c % 16 / 8 % 2 = omega arith in
     let y : c / 4 % 2 ≡ c % 16 / 4 % 2 = omega arith in
     let z : c / 2 % 2 ≡ c % 16 / 2 % 2 = omega arith in
     let e : above c % 2 ≡ above (c % 16) % 2 = low c ∙ (λ i. bitAnd (x i) (bitOr (y i) (z i))) ∙ sym (low (c % 16)) in
     let one : above (c % 16) % 2 ≡ cond (leb (c % 16) 9) 0 1 =
-    eqb→eq _ _ (subst T (getD-tab right 16 (c % 16) true (mod-lt c (lit< tt))) (each (tab right 0 16) (c % 16) tt)) in
+    computed (λ (d : ℕ). above d % 2) (λ (d : ℕ). cond (leb d 9) 0 1) 16 (c % 16) tt (mod-lt c (lit< tt)) in
     ap (λ (n : ℕ). eqb n 0) (e ∙ one) ∙ back (leb (c % 16) 9)
   where
     back : (b : Bool) → eqb (cond b 0 1) 0 ≡ b
@@ -76,15 +82,10 @@ at-once (suc n) c =
     ∙ both-zero (bitAnd (above (c / 16)) (ones n)) (above c % 2)
     ∙ ap₂ (λ (s t : Bool). s && t) (at-once n (c / 16)) (one-digit c)
 
--- the lowest bits of the most digits, and those of n digits
-abbrev pub digitOnes : ℕ
-digitOnes = 4803839602528529
-
-ones-of : (n : ℕ) → n ≤ mostDigits → digitOnes % 2 ^ (4 * n) ≡ ones n
+-- those of the most digits, cut to n digits
+ones-of : (n : ℕ) → n ≤ mostDigits → ones mostDigits % 2 ^ (4 * n) ≡ ones n
 unfolding ones
-ones-of n h =
-    let right : ℕ → Bool = λ (k : ℕ). eqb (digitOnes % 2 ^ (4 * k)) (ones k) in
-    eqb→eq _ _ (subst T (getD-tab right 15 n true (omega arith)) (each (tab right 0 15) n tt))
+ones-of n h = computed (λ (k : ℕ). ones mostDigits % 2 ^ (4 * k)) ones (suc mostDigits) n tt (omega arith)
 
-pub all-digits : (n c : ℕ) → n ≤ mostDigits → eqb (bitAnd (above c) (digitOnes % 2 ^ (4 * n))) 0 ≡ digits n c
+pub all-digits : (n c : ℕ) → n ≤ mostDigits → eqb (bitAnd (above c) (ones mostDigits % 2 ^ (4 * n))) 0 ≡ digits n c
 all-digits n c h = ap (λ (m : ℕ). eqb (bitAnd (above c) m) 0) (ones-of n h) ∙ at-once n c

@@ -21,7 +21,7 @@ pub struct HeaderAnswer {
     pub values: [u64; FIELD_COUNT],
 }
 
-// What 1 to 11 judge of the bytes. Only those fields are read.
+// What 1 to 11 judge of the bytes. Only those fields are read; the digits first, which was measured to be faster.
 fn judged(bytes: &[u8]) -> Judged
     ensures { λ r. ⌜ r ≡ judgedOf (length (now (bytes .entry))) (λ f. valueOf f (now (bytes .entry))) (allDigitsGood fields1985 (now (bytes .entry))) ⌝ }
 {
