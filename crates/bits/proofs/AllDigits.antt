@@ -25,7 +25,7 @@ unfoldable pub ones : ℕ → ℕ
 ones zero = 0
 ones (suc n) = ones n * 16 + 1
 
--- its bit at a digit's lowest bit is set where that digit of c is above 9
+-- at the place of a digit's lowest bit, its bit is set exactly where that digit of c is above 9
 abbrev pub above : ℕ → ℕ
 above c = bitAnd (c / 8) (bitOr (c / 4) (c / 2))
 

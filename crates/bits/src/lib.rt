@@ -13,7 +13,7 @@ pub const WIDEST: usize = 56;
 
 const MOST_DIGITS: usize = 14;
 
-// The lowest bit of each digit, of as many as that.
+// The lowest bit of each of the 14 digits.
 const DIGIT_ONES: u64 = 0x11_1111_1111_1111;
 
 fn wide(byte: u8) -> u64
