@@ -29,7 +29,7 @@ enum odr_refusal_number {
     ODR_NO_SUCH_RATE = 5,           /* none of the seven sample rates */
     ODR_NOT_THE_RATES_LENGTH = 6,   /* the record's length is neither of its rate's two */
     ODR_NUMBER_ZERO = 7,            /* tape or record number 0 */
-    ODR_NO_SUCH_DATE = 8,           /* year above 99, day 0 or above 366 */
+    ODR_NO_SUCH_DATE = 8,           /* year above 99, or day 0 or above 365 (366 in years divisible by 4, 00 too) */
     ODR_PAST_THE_DAY = 9,           /* record or readback time tag above 86,399,999 ms */
     ODR_NO_DIGIT = 10,              /* a decimal digit above 9 */
     ODR_WRONG_SYNC = 11,            /* clock origin 1 and a sync word other than A55A hex */

@@ -112,6 +112,23 @@ static void headers(void) {
     }
 }
 
+/* Years divisible by 4 have a day 366, and 00 is one of them; a date that is written is judged as one that is read. Word 6 has
+ * the year in its first seven bits and the day in the other nine. */
+static void dates(void) {
+    static const unsigned asked[][2] = {{84, 366}, {84, 367}, {86, 365}, {86, 366}, {0, 366}, {99, 366}};
+    for (size_t i = 0; i < sizeof asked / sizeof asked[0]; i++) {
+        uint8_t bytes[LENGTH];
+        odr_header header;
+        memcpy(bytes, record, LENGTH);
+        odr_read_header(bytes, LENGTH, &header);
+        header.value[ODR_YEAR] = asked[i][0];
+        header.value[ODR_DAY] = asked[i][1];
+        uint8_t written = odr_write_header(bytes, LENGTH, &header);
+        set_word(bytes, 6, asked[i][0] << 9 | asked[i][1]);
+        printf("day %u of year %02u: read %u, written %u\n", asked[i][1], asked[i][0], odr_refusal(bytes, LENGTH), written);
+    }
+}
+
 /* Five rates have 1,000 samples in a record, 1,000 has 500 and 200 has 100; the rate over that is the records of a second, a
  * million over the rate the microseconds. The last two numbers are 200 more than 2^16 and 2^32. */
 static void rates(void) {
@@ -314,12 +331,19 @@ static void change(void) {
     seconds[0]--;
 }
 
-/* An opening that is 0 throughout, as a refused odr_open returns it, is 13 in every call. */
-static void forge(void) {
-    memset(&opening, 0, sizeof opening);
-    printf("no opening: insert %u, remove %u\n", insert(1), remove_number(1));
+static void call_all(const char *name) {
+    printf("%s: insert %u, remove %u\n", name, insert(1), remove_number(1));
     query(NOON);
     test();
+}
+
+/* An opening that holds a date which is none, or one that is 0 throughout, as a refused odr_open returns it, is 13 in every
+ * call. */
+static void forge(void) {
+    opening.day = 366;
+    call_all("day 366 of year 86 held");
+    memset(&opening, 0, sizeof opening);
+    call_all("no opening");
 }
 
 static void print_text(const char *name, odr_text_answer answer, const uint8_t *text) {
@@ -367,6 +391,7 @@ int main(void) {
                                         {16, 0x4200}, {26, 0x0012}, {27, 0x3452}, {37, 0x00C8}, {38, 0xA55A}};
     set_words(record, words, sizeof words / sizeof words[0]);
     headers();
+    dates();
     rates();
     samples();
     times();

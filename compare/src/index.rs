@@ -2,8 +2,8 @@
 //! seconds" and "The ledger".
 
 use crate::lent::{around, Lent};
-use crate::records::{any_bytes, total};
-use crate::run::{answer, Answer, Part, Run, Said};
+use crate::records::{any_bytes, date, total};
+use crate::run::{answer, day_word, Answer, Part, Run, Said};
 use odr::{ConsistencyAnswer, MeansAnswer, OpenAnswer, SecondAnswer, CELLS};
 use second::book::{self, Ledger, Opening, SecondTotals};
 use second::gen::{self, set_word, word, Rng};
@@ -54,7 +54,7 @@ fn open(run: &mut Run, pattern: Vec<u8>, limits: [u64; 3], lengths: [usize; 2]) 
     let blocks = opened.as_ref().map_or([0, 0], |o| [o.highest, o.count]);
     let [no_rows, no_seconds] = blocks.map(|count| vec![0; block(count).start]);
     let parts = [("pattern", record.difference()), ("rows", rows.check(&no_rows)), ("seconds", seconds.check(&no_seconds))];
-    run.compare("odr_open", actual, expected, &parts);
+    run.compare("odr_open", date(&pattern), actual, expected, &parts);
     let opened = opened.ok()?;
     Some(History { pattern, given: opened.clone(), opened, ledger: Ledger::default(), rows, seconds })
 }
@@ -98,15 +98,15 @@ pub fn history(run: &mut Run) {
     }
 }
 
-/// Gives a record, which stays accepted, another rate, year, day, tape, spacecraft or SPC.
+/// Gives a record, which stays accepted, another rate, year, day, tape, spacecraft or SPC. The fourth year on has as many days.
 fn to_another_reel(rng: &mut Rng, r: &mut Vec<u8>) {
     let (year, day, bit) = (word(r, 6) >> 9, word(r, 6) & 511, 1 << (rng.next() % 8));
     match rng.next() % 6 {
         0 => r[1] = r[1] % 255 + 1,
         1 => r[8] ^= bit,
         2 => r[9] ^= bit,
-        3 => set_word(r, 6, (year + 1) % 100 << 9 | day),
-        4 => set_word(r, 6, year << 9 | day % 366 + 1),
+        3 => set_word(r, 6, (year + 4) % 100 << 9 | day),
+        4 => set_word(r, 6, year << 9 | day % 365 + 1),
         _ => {
             let mut pattern = r.clone();
             set_word(&mut pattern, 37, rng.pick(&RATES).hz);
@@ -269,7 +269,8 @@ impl History {
             }
             _ => {}
         }
-        self.compare(run, ("odr_insert", kind), actual, said, &[("record", record.difference())]);
+        let date = if expected == Err(8) { date(record.body()) } else { self.held_date() };
+        self.compare(run, ("odr_insert", kind), date, actual, said, &[("record", record.difference())]);
     }
 
     fn remove(&mut self, run: &mut Run, number: u64) {
@@ -286,7 +287,7 @@ impl History {
             }
             _ => {}
         }
-        self.compare(run, ("odr_remove", ""), actual, said, &[]);
+        self.compare(run, ("odr_remove", ""), self.held_date(), actual, said, &[]);
     }
 
     /// The ledger's totals of a second.
@@ -312,7 +313,7 @@ impl History {
             _ => "",
         };
         let actual = odr::query(passed(&self.given), second, self.rows.body(), self.seconds.body());
-        self.compare(run, ("odr_query", kind), actual, said, &[]);
+        self.compare(run, ("odr_query", kind), self.held_date(), actual, said, &[]);
     }
 
     fn means(&mut self, run: &mut Run, second: u64) {
@@ -322,7 +323,8 @@ impl History {
         let said = self.said(&expected, |means| MeansAnswer { refusal: 0, channels: means.map(one) }, 0);
         let empty = self.given == self.opened && self.totals(second).is_ok_and(|t| t.records == 0);
         let actual = odr::second_means(passed(&self.given), second, self.rows.body(), self.seconds.body());
-        self.compare(run, ("odr_second_means", if empty { "empty " } else { "" }), actual, said, &[]);
+        let kind = if empty { "empty " } else { "" };
+        self.compare(run, ("odr_second_means", kind), self.held_date(), actual, said, &[]);
     }
 
     /// Whether the rows of the opening given are those of the records in its seconds; none where its rows and seconds are not all
@@ -349,24 +351,41 @@ impl History {
             _ => "",
         };
         let actual = odr::is_consistent(passed(&self.given), self.rows.body(), self.seconds.body());
-        self.compare(run, ("odr_is_consistent", kind), actual, said, &[]);
+        self.compare(run, ("odr_is_consistent", kind), self.held_date(), actual, said, &[]);
     }
 
-    /// Compares a call of some kind: its answer, every cell, and the parts of memory that only this call has.
-    fn compare<A: Answer>(&mut self, run: &mut Run, (call, kind): (&str, &str), actual: A, said: Said<A>, parts: &[Part]) {
+    /// The date that the opening given holds.
+    fn held_date(&self) -> (u64, u64) {
+        (self.given.year, self.given.day)
+    }
+
+    /// Compares a call of some kind, which turns on a date: its answer, every cell, and the parts of memory that only this call has.
+    fn compare<A: Answer>(
+        &mut self,
+        run: &mut Run,
+        (call, kind): (&str, &str),
+        date: (u64, u64),
+        actual: A,
+        said: Said<A>,
+        parts: &[Part],
+    ) {
         let needed = [self.opened.highest, self.opened.count].map(|blocks| block(blocks).start);
         let short = self.lengths().iter().zip(needed).any(|(&length, needed)| length < needed);
         let whose = if self.given != self.opened { "forged " } else if short { "short " } else { "" };
         let outcome = match said {
-            Said::Is(expected) => format!("{whose}{kind}{}", expected.number()),
+            Said::Is(expected) => {
+                let number = expected.number();
+                let day = if let ("", 0 | 8) | ("forged ", 13) = (whose, number) { day_word(date) } else { "" };
+                format!("{whose}{kind}{day}{number}")
+            }
             Said::Open(_) => format!("{whose}left open"),
         };
         let cells = [("rows", self.rows.difference()), ("seconds", self.seconds.difference())];
         run.compare_as(call, &outcome, actual, said, &[&cells, parts].concat());
     }
 
-    /// This history with an opening that has another number, fewer seconds or rows, or only zeros, or with buffers that are too
-    /// short.
+    /// This history with an opening that has another number, fewer seconds or rows, day 366 of any year, or only zeros, or with
+    /// buffers that are too short.
     fn forged(&self, rng: &mut Rng) -> History {
         let mut forged = self.clone();
         let mut numbers = numbers(&self.opened);
@@ -379,6 +398,10 @@ impl History {
             5 => {
                 let which = 1 + rng.next() as usize % 2;
                 numbers[which] = rng.within(1, numbers[which]);
+            }
+            6 => {
+                forged.given = Opening { year: rng.within(0, 99), day: 366, ..forged.given };
+                return forged;
             }
             _ => {
                 let near = rng.pick(&[own.wrapping_sub(1), own + 1, own ^ bit, own + 256]);

@@ -1,11 +1,11 @@
 //! Calls on records, reels and samples. FORMAT: "The record" to "The reel", and of "The index of seconds" the totals.
 
 use crate::lent::{around, Lent};
-use crate::run::{answer, Answer, Run, Said};
+use crate::run::{answer, dated, Answer, Run, Said};
 use odr::field::*;
 use odr::{FrequencyRateAnswer, PhasesAnswer, SampleRateAnswer, SegmentAnswer, StepAnswer, TimeAnswer, TotalsAnswer};
 use odr::HEADER_VALUES;
-use second::gen::{self, Rng};
+use second::gen::{self, word, Rng};
 use second::monitor;
 use second::record::{self, Header};
 use second::reel::{step as second_step, Step};
@@ -30,6 +30,11 @@ pub fn any_bytes(rng: &mut Rng) -> Vec<u8> {
     r
 }
 
+/// The year and the day of a record, 0 where there are too few bytes.
+pub fn date(record: &[u8]) -> (u64, u64) {
+    if record.len() < 12 { (0, 0) } else { (word(record, 6) >> 9, word(record, 6) & 511) }
+}
+
 /// A call that reads any bytes as a record.
 fn read<T, A: Answer>(
     run: &mut Run,
@@ -41,7 +46,7 @@ fn read<T, A: Answer>(
     let mut record = Lent::of(&any_bytes(&mut run.rng));
     let expected = answer(&second(record.body()), given);
     let actual = library(record.body());
-    run.compare(call, actual, expected, &[("record", record.difference())]);
+    run.compare(call, date(record.body()), actual, expected, &[("record", record.difference())]);
 }
 
 pub fn refusal(run: &mut Run) {
@@ -100,7 +105,7 @@ pub fn read_header(run: &mut Run) {
     let number = answer(&expected, |_| 0);
     let written = expected.map_or(vec![], |mut h| values(&mut h));
     let parts = [("record", record.difference()), ("header", header.check(&written))];
-    run.compare("odr_read_header", actual, number, &parts);
+    run.compare("odr_read_header", date(record.body()), actual, number, &parts);
 }
 
 /// The second program's header by the library's names: each value at its place.
@@ -129,7 +134,7 @@ fn values(h: &mut Header) -> Vec<u64> {
     values
 }
 
-/// Fields, and values of them that 3 to 11 refuse when they are written; 11 where the clock origin is 1.
+/// Fields, and values of them that 3 to 11 refuse when they are written; day 366 in most years, 11 where the clock origin is 1.
 const REFUSED: [(&[usize], &[u64]); 11] = [
     (&[CONVERSION], &[1]),
     (&[COMPRESSION], &[0, 2, 15, 16, 17]),
@@ -137,7 +142,7 @@ const REFUSED: [(&[usize], &[u64]); 11] = [
     (&[LENGTH_WORDS], &[40, 389, 391, 395, 1190, 2189, 2196, 65_926]),
     (&[TAPE_NUMBER, RECORD_NUMBER], &[0]),
     (&[YEAR], &[100, 127, 128]),
-    (&[DAY], &[0, 367, 511, 513]),
+    (&[DAY], &[0, 366, 367, 511, 513]),
     (&[TIME_TAG_MS, READBACK_TAG_MS], &[86_400_000, 1 << 27, u64::MAX]),
     (&[READBACK_UHZ, CALCULATED_UHZ], &[100_000_000_000_000, 1 << 56, u64::MAX]),
     (&[FREQUENCY_RATE_DIGITS], &[100_000, 1 << 20]),
@@ -180,7 +185,7 @@ pub fn write_header(run: &mut Run) {
     let expected = record::write_header(&mut bytes, &header);
     let actual = odr::write_header(record.body_mut(), values.body().try_into().expect("46 values"));
     let parts = [("record", record.check(&bytes)), ("values", values.difference())];
-    run.compare("odr_write_header", actual, answer(&expected, |_| 0), &parts);
+    run.compare("odr_write_header", (header.year, header.day), actual, answer(&expected, |_| 0), &parts);
 }
 
 /// Four channel buffers for the samples of a record, few of them short.
@@ -200,7 +205,7 @@ pub fn read_samples(run: &mut Run) {
     let actual = odr::read_samples(record.body(), channels.each_mut().map(|channel| channel.body_mut()));
     let mut parts = vec![("record", record.difference())];
     parts.extend(channels.iter_mut().zip(&after).map(|(channel, after)| ("channel", channel.check(after))));
-    run.compare("odr_read_samples", actual, answer(&expected, |_| 0), &parts);
+    run.compare("odr_read_samples", date(record.body()), actual, answer(&expected, |_| 0), &parts);
 }
 
 pub fn write_samples(run: &mut Run) {
@@ -211,7 +216,7 @@ pub fn write_samples(run: &mut Run) {
     let actual = odr::write_samples(record.body_mut(), channels.each_ref().map(|channel| channel.body()));
     let mut parts = vec![("record", record.check(&after))];
     parts.extend(channels.iter_mut().map(|channel| ("channel", channel.difference())));
-    run.compare("odr_write_samples", actual, answer(&expected, |_| 0), &parts);
+    run.compare("odr_write_samples", date(record.body()), actual, answer(&expected, |_| 0), &parts);
 }
 
 pub fn segment(run: &mut Run) {
@@ -272,6 +277,7 @@ pub fn step(run: &mut Run) {
         Step::Refused(number) => ("", StepAnswer::refused(number)),
     };
     let actual = odr::step(reel.body(), place);
-    let outcome = format!("{kind}{}", expected.answer);
+    let date = date(reel.body().get(place..).unwrap_or_default());
+    let outcome = format!("{kind}{}", dated(date, expected.answer));
     run.compare_as("odr_step", &outcome, actual, Said::Is(expected), &[("reel", reel.difference())]);
 }

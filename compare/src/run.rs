@@ -6,38 +6,55 @@ use std::fmt::Debug;
 
 /// Each call with every outcome that must be met: the numbers that c/odr.h names, 0 for no refusal. Kinds of one number are told
 /// apart by words: `forged` is an opening that odr_open did not return, `short` a buffer of too few cells; of an answer that is
-/// `left open` FORMAT says no more than what `Said::Open` has.
+/// `left open` FORMAT says no more than what `Said::Open` has. A number with a star must be met on day 366 too.
 const CALLS: [(&str, &str); 20] = [
-    ("odr_refusal", "0,1-11"),
-    ("odr_read_header", "0,1-11"),
-    ("odr_write_header", "0,1-11,22"),
-    ("odr_frequency_rate", "0,1-11"),
+    ("odr_refusal", "0*,1-7,8*,9-11"),
+    ("odr_read_header", "0*,1-7,8*,9-11"),
+    ("odr_write_header", "0*,1-7,8*,9-11,22"),
+    ("odr_frequency_rate", "0*,1-7,8*,9-11"),
     ("odr_sample_rate", "50000 0,20000 0,10000 0,5000 0,2000 0,1000 0,200 0,5"),
-    ("odr_read_samples", "0,1-11,12"),
-    ("odr_write_samples", "0,1-11,12"),
-    ("odr_sample_time", "0,1-11,12"),
-    ("odr_phases", "0,1-11"),
-    ("odr_totals", "0,1-11"),
+    ("odr_read_samples", "0*,1-7,8*,9-12"),
+    ("odr_write_samples", "0*,1-7,8*,9-12"),
+    ("odr_sample_time", "0*,1-7,8*,9-12"),
+    ("odr_phases", "0*,1-7,8*,9-11"),
+    ("odr_totals", "0*,1-7,8*,9-11"),
     ("odr_segment", "this 0,earlier 0,this 1-11,earlier 1-11,20,23"),
-    ("odr_step", "record 0,finished 255,1-11"),
-    ("odr_open", "0,1-11,13-14"),
-    ("odr_insert", "0,in place 0,moved 0,1-11,15-18,short 1-11,short 14,forged 1-11,forged 13-17,forged left open"),
-    ("odr_remove", "0,16,19,short 14,forged 13-14,forged 16,forged left open"),
-    ("odr_query", "0,empty 0,kept 0,17,short 14,forged 13-14,forged 17,forged left open"),
-    ("odr_second_means", "0,empty 0,17,short 14,forged 13-14,forged 17,forged left open"),
-    ("odr_is_consistent", "yes 0,no 0,short 14,forged yes 0,forged no 0,forged 13-14,forged left open"),
-    ("odr_record_line", "0,1-11,21"),
+    ("odr_step", "record 0*,finished 255,1-7,8*,9-11"),
+    ("odr_open", "0*,1-7,8*,9-11,13-14"),
+    (
+        "odr_insert",
+        "0*,in place 0*,moved 0*,1-7,8*,9-11,15-18,short 1-11,short 14,forged 1-11,forged 13*,forged 14-17,forged left open",
+    ),
+    ("odr_remove", "0*,16,19,short 14,forged 13*,forged 14,forged 16,forged left open"),
+    ("odr_query", "0*,empty 0*,kept 0*,17,short 14,forged 13*,forged 14,forged 17,forged left open"),
+    ("odr_second_means", "0*,empty 0*,17,short 14,forged 13*,forged 14,forged 17,forged left open"),
+    ("odr_is_consistent", "yes 0*,no 0*,short 14,forged yes 0,forged no 0,forged 13*,forged 14,forged left open"),
+    ("odr_record_line", "0*,1-7,8*,9-11,21"),
     ("odr_list", "0,line 1-11,line 24,21"),
 ];
+
+const DAY_366: &str = "day 366 ";
+
+/// The word before the number of an outcome that turns on a date, year and day: 0 or a refusal.
+pub fn day_word((year, day): (u64, u64)) -> &'static str {
+    if day == 366 && year <= 99 { DAY_366 } else { "" }
+}
+
+/// The outcome of a call on a record or a header of this date.
+pub fn dated(date: (u64, u64), number: u8) -> String {
+    let day = if [0, 8].contains(&number) { day_word(date) } else { "" };
+    format!("{day}{number}")
+}
 
 /// The outcomes of such a list: a range stands for each of its numbers.
 fn outcomes(list: &str) -> Vec<String> {
     let each = |item: &str| {
         let (words, last) = item.split_at(item.rfind(' ').map_or(0, |at| at + 1));
         let ends = last.split_once('-').and_then(|(low, high)| Some((low.parse().ok()?, high.parse().ok()?)));
-        match ends {
-            Some((low, high)) => (low..=high).map(|number: u8| format!("{words}{number}")).collect(),
-            None => vec![item.to_string()],
+        match (ends, last.strip_suffix('*')) {
+            (Some((low, high)), _) => (low..=high).map(|number: u8| format!("{words}{number}")).collect(),
+            (_, Some(number)) => vec![format!("{words}{number}"), format!("{words}{DAY_366}{number}")],
+            _ => vec![item.to_string()],
         }
     };
     list.split(',').flat_map(each).collect()
@@ -143,9 +160,9 @@ impl Run {
         Run { rng: Rng(seed), cases: 0, seed, met: met.into() }
     }
 
-    /// One compared call whose outcome is its number.
-    pub fn compare<A: Answer>(&mut self, call: &str, actual: A, expected: A, parts: &[Part]) {
-        self.compare_as(call, &expected.number().to_string(), actual, Said::Is(expected), parts);
+    /// One compared call on a record or a header of this date, whose outcome is its number.
+    pub fn compare<A: Answer>(&mut self, call: &str, date: (u64, u64), actual: A, expected: A, parts: &[Part]) {
+        self.compare_as(call, &dated(date, expected.number()), actual, Said::Is(expected), parts);
     }
 
     /// One compared call: the library's answer, every member of it, and each part of lent memory. A difference ends the run.

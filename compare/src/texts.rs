@@ -1,18 +1,18 @@
 //! Calls that write text. FORMAT: "The listing", refusals 21 and 24.
 
 use crate::lent::{around, Lent};
-use crate::records::{any_bytes, any_reel};
-use crate::run::{answer, Answer, Run, Said};
+use crate::records::{any_bytes, any_reel, date};
+use crate::run::{answer, dated, Answer, Run, Said};
 use odr::{TextAnswer, LONGEST_LISTING};
 use second::gen::{self, Rng};
 use second::lister::{self, put_text, LONGEST_INPUT};
 use second::record::RATES;
 
 /// Compares a call that puts a text into a buffer: mostly of about the length that it needs, else of the longest listing's.
-/// `outcome` is that of an accepted call.
+/// `outcome` names that of an answer's number.
 fn put(
     run: &mut Run,
-    (call, outcome): (&str, &str),
+    (call, outcome): (&str, impl Fn(u8) -> String),
     input: &[u8],
     text: Result<String, u8>,
     library: fn(&[u8], &mut [u8]) -> TextAnswer,
@@ -25,14 +25,13 @@ fn put(
     let expected = text.and_then(|text| put_text(&mut after, text.as_bytes()));
     let expected = answer(&expected, |&length| TextAnswer { refusal: 0, length });
     let actual = library(input.body(), buffer.body_mut());
-    let outcome = if expected.refusal == 0 { outcome.to_string() } else { expected.number().to_string() };
     let parts = [("input", input.difference()), ("text", buffer.check(&after))];
-    run.compare_as(call, &outcome, actual, Said::Is(expected), &parts);
+    run.compare_as(call, &outcome(expected.number()), actual, Said::Is(expected), &parts);
 }
 
 pub fn record_line(run: &mut Run) {
     let record = any_bytes(&mut run.rng);
-    put(run, ("odr_record_line", "0"), &record, lister::line(&record), odr::record_line);
+    put(run, ("odr_record_line", |number| dated(date(&record), number)), &record, lister::line(&record), odr::record_line);
 }
 
 /// A reel, few of them about as long as the lister takes, of any records or of the shortest.
@@ -53,6 +52,7 @@ pub fn list(run: &mut Run) {
     let input = any_input(&mut run.rng);
     let text = String::from_utf8_lossy(&lister::listing(&input)).into_owned();
     let refused = text.lines().last().and_then(|line| line.strip_prefix("refused,"));
-    let outcome = refused.map_or("0".to_string(), |number| format!("line {number}"));
-    put(run, ("odr_list", &outcome), &input, Ok(text), odr::list);
+    let listed = refused.map_or("0".to_string(), |number| format!("line {number}"));
+    let outcome = |number: u8| if number == 0 { listed.clone() } else { number.to_string() };
+    put(run, ("odr_list", outcome), &input, Ok(text), odr::list);
 }

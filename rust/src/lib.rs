@@ -55,7 +55,7 @@ pub mod refusal {
     pub const NOT_THE_RATES_LENGTH: u8 = 6;
     /// Tape or record number 0.
     pub const NUMBER_ZERO: u8 = 7;
-    /// Year above 99, day 0 or above 366.
+    /// Year above 99, or day 0 or above 365 (366 in years divisible by 4, 00 too).
     pub const NO_SUCH_DATE: u8 = 8;
     /// Record or readback time tag above 86,399,999 ms.
     pub const PAST_THE_DAY: u8 = 9;

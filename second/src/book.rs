@@ -1,6 +1,6 @@
 //! FORMAT, "The index of seconds" and "The ledger": records held by number, every answer worked out from nothing.
 
-use crate::record::{rate_of, read_header, Header};
+use crate::record::{is_date, rate_of, read_header, Header};
 use crate::samples::{channels, means, total, Means, Total};
 use std::collections::BTreeMap;
 
@@ -37,7 +37,7 @@ fn judge(o: &Opening, row_cells_len: usize, second_cells_len: usize) -> Result<(
     let limits = (1..=65_535).contains(&o.highest)
         && (1..=86_400).contains(&o.count)
         && o.first_second <= 86_400 - o.count;
-    let pattern = rate_of(o.rate).is_some() && o.tape != 0 && o.year <= 99 && o.day != 0 && o.day <= 366;
+    let pattern = rate_of(o.rate).is_some() && o.tape != 0 && is_date(o.year, o.day);
     if !limits || !pattern {
         return Err(13);
     }

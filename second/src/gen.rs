@@ -1,6 +1,6 @@
 //! FORMAT whole: seeded inputs for comparing two programs, made without the writers under test.
 
-use crate::record::{Rate, LAST_MS, RATES};
+use crate::record::{is_date, Rate, LAST_MS, RATES};
 
 /// Splitmix64.
 pub struct Rng(pub u64);
@@ -60,6 +60,11 @@ pub fn set_digit(r: &mut [u8], place: usize, digit: u64) {
     r[at] = r[at] & !(15 << shift) | (digit as u8) << shift;
 }
 
+/// The last day of a year of 00 to 99.
+fn last_day(year: u64) -> u64 {
+    if is_date(year, 366) { 366 } else { 365 }
+}
+
 /// An accepted record of any rate and either length.
 pub fn record(rng: &mut Rng) -> Vec<u8> {
     let rate = rng.pick(&RATES);
@@ -80,7 +85,8 @@ pub fn record_with(rng: &mut Rng, rate: Rate, words: u64) -> Vec<u8> {
     set_word(&mut r, 1, origin << 15 | flags << 13 | 1 << 8 | tape);
     set_word(&mut r, 2, rng.within(1, 65_535));
     set_word(&mut r, 3, words);
-    set_word(&mut r, 6, rng.within(0, 99) << 9 | rng.within(1, 366));
+    let year = rng.within(0, 99);
+    set_word(&mut r, 6, year << 9 | rng.within(1, last_day(year)));
     set_tag(&mut r, 7, rng.within(0, LAST_MS));
     set_tag(&mut r, 18, rng.within(0, LAST_MS));
     let few = rng.one_in(4);
@@ -170,10 +176,10 @@ pub fn breach(rng: &mut Rng, r: &mut Vec<u8>, number: u8) {
         }
         8 => {
             let (year, day) = (word(r, 6) >> 9, word(r, 6) & 511);
-            let bad_day = if rng.one_in(2) { 0 } else { rng.within(367, 511) };
-            let bad_year = rng.within(100, 127);
-            let both = rng.pick(&[(bad_year, day), (year, bad_day), (bad_year, bad_day)]);
-            set_word(r, 6, both.0 << 9 | both.1);
+            let next = last_day(year) + 1;
+            let (bad_year, later) = (rng.within(100, 127), rng.within(next, 511));
+            let (year, day) = rng.pick(&[(bad_year, day), (bad_year, later), (year, 0), (year, next), (year, later)]);
+            set_word(r, 6, year << 9 | day);
         }
         9 => {
             let which = rng.within(1, 3);

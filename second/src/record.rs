@@ -204,6 +204,11 @@ fn places(h: &Header) -> Vec<(usize, usize, usize, u64)> {
     places
 }
 
+/// Whether there is such a date. Years have 365 days, and those divisible by 4 a day 366; 00 is one of them.
+pub fn is_date(year: u64, day: u64) -> bool {
+    year <= 99 && ((1..=365).contains(&day) || day == 366 && year % 4 == 0)
+}
+
 /// Refusals 2 to 11 of a record of `length` bytes with these fields.
 fn judge(length: usize, h: &Header) -> Result<(), u8> {
     if length as u128 != 2 * u128::from(h.length_words) {
@@ -222,7 +227,7 @@ fn judge(length: usize, h: &Header) -> Result<(), u8> {
     if h.tape_number == 0 || h.record_number == 0 {
         return Err(7);
     }
-    if h.year > 99 || h.day == 0 || h.day > 366 {
+    if !is_date(h.year, h.day) {
         return Err(8);
     }
     if h.time_tag_ms > LAST_MS || h.readback_tag_ms > LAST_MS {

@@ -166,7 +166,7 @@ fn header_fields() {
     for (i, byte) in bytes[..80].iter_mut().enumerate() {
         *byte = i as u8;
     }
-    for (w, value) in [(1, 0xE1FE), (3, 390), (6, 99 << 9 | 366), (37, 200), (38, 0xA55A)] {
+    for (w, value) in [(1, 0xE1FE), (3, 390), (6, 96 << 9 | 366), (37, 200), (38, 0xA55A)] {
         set_word(&mut bytes, w, value);
     }
     set_tag(&mut bytes, 7, 86_399_999);
@@ -187,7 +187,7 @@ fn header_fields() {
         secondary_fea: 7,
         spacecraft: 8,
         spc: 9,
-        year: 99,
+        year: 96,
         day: 366,
         time_tag_ms: 86_399_999,
         predict: [16, 17, 18, 19, 20, 21, 22, 23, 24, 25],
@@ -344,10 +344,19 @@ fn refusal_7() {
 #[test]
 fn refusal_8() {
     for (year, day, found) in [
-        (84, 366, 0), (84, 367, 8), (84, 1, 0), (84, 0, 8), (84, 511, 8), (85, 366, 0),
-        (0, 1, 0), (99, 1, 0), (100, 1, 8), (127, 1, 8),
+        (84, 366, 0), (84, 367, 8), (84, 1, 0), (84, 0, 8), (84, 511, 8), (86, 366, 8), (86, 365, 0), (0, 366, 0), (99, 366, 8),
+        (99, 365, 0), (0, 1, 0), (99, 1, 0), (100, 1, 8), (100, 366, 8), (127, 1, 8),
     ] {
         assert_eq!(answer(|r| set_word(r, 6, year << 9 | day)), found);
+        let mut bytes = case();
+        let header = Header { year, day, ..read_header(&bytes).unwrap() };
+        assert_eq!(write_header(&mut bytes, &header).err().unwrap_or(0), found);
+    }
+    // Every fourth year from 00 on has a day 366.
+    let longer: Vec<u64> = (0..100).step_by(4).collect();
+    for year in 0..100 {
+        let found = if longer.contains(&year) { 0 } else { 8 };
+        assert_eq!(answer(|r| set_word(r, 6, year << 9 | 366)), found, "{year}");
     }
 }
 
@@ -458,7 +467,11 @@ fn refusal_13() {
         (forged(|o| o.year = 99), 0),
         (forged(|o| o.day = 0), 13),
         (forged(|o| o.day = 367), 13),
-        (forged(|o| o.day = 366), 0),
+        (forged(|o| o.day = 366), 13),
+        (forged(|o| (o.year, o.day) = (84, 366)), 0),
+        (forged(|o| (o.year, o.day) = (0, 366)), 0),
+        (forged(|o| (o.year, o.day) = (99, 366)), 13),
+        (forged(|o| o.day = 365), 0),
         (forged(|o| o.highest = 0), 13),
         (forged(|o| o.count = 0), 13),
         (forged(|o| o.count = u64::MAX), 13),

@@ -109,7 +109,7 @@ MIXED = [
     Record(256, 1000, "B", readback_uhz=2_295_000_123_456, rate_digits=12345, sign=1, power=3),
     Record(9, 1000, "A", sync=0, rate_digits=12345, sign=1, power=0),
     Record(10, 200, "B", day=366, year=84, tape=255, rate_digits=10000, sign=0, power=1),
-    Record(11, 200, "A", day=1, year=0, rate_digits=12345, sign=0, power=1),
+    Record(11, 200, "A", day=366, year=0, rate_digits=12345, sign=0, power=1),
 ]
 
 GOOD = Record(7, origin=1)
@@ -122,7 +122,7 @@ REFUSED = {
     "5": Record(8, rate=201, words=390),
     "6": Record(8, rate=200, words=1190),
     "7": Record(8, tape=0),
-    "8": Record(8, day=367),
+    "8": Record(8, year=84, day=367),
     "9": Record(8, tag_ms=86_400_000),
     "10": Record(8, readback_digits="0000004200000A"),
     "11": Record(8, origin=1, sync=0xA55B),
@@ -154,6 +154,7 @@ def cases():
     for refusal, record in REFUSED.items():
         yield f"refused-{refusal}", good + record.bytes() + AFTER.bytes(), listing([GOOD], int(refusal))
     yield "refused-7-record-number", good + Record(0).bytes() + AFTER.bytes(), listing([GOOD], 7)
+    yield "refused-8-day-366", good + Record(8, year=86, day=366).bytes() + AFTER.bytes(), listing([GOOD], 8)
     yield "refused-9-readback-tag", good + Record(8, readback_tag_ms=86_400_000).bytes(), listing([GOOD], 9)
     yield "refused-first", REFUSED["4"].bytes() + good, listing([], 4)
 

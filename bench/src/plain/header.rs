@@ -147,7 +147,7 @@ pub fn judge(bytes: usize, h: &Header) -> Result<usize, u8> {
     if h.tape_number == 0 || h.record_number == 0 {
         return Err(7);
     }
-    if h.year > 99 || h.day == 0 || h.day > 366 {
+    if h.year > 99 || h.day == 0 || h.day > if h.year % 4 == 0 { 366 } else { 365 } {
         return Err(8);
     }
     if h.time_tag_ms > LAST_MS || h.readback_tag_ms > LAST_MS {

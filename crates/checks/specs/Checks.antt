@@ -1,6 +1,6 @@
 -- Refusals 1 to 11, in the order of checking. FORMAT, "Refusal numbers".
-use Prim.Native.Nat.{ℕ, _*_}
-use mathlib.Core.Bool.{Bool, not, _&&_, _||_}
+use Prim.Native.Nat.{ℕ, _*_, _%_}
+use mathlib.Core.Bool.{Bool, cond, not, _&&_, _||_}
 use mathlib.Core.List.{List, [], _∷_}
 use lib.Dec.{eqb, ltb}
 use Rattle.answers.specs.Refusal.{Check, _when_}
@@ -31,9 +31,13 @@ lastMs = 86399999
 abbrev pub syncPattern : ℕ
 syncPattern = 42330
 
--- 8: a year above 99, or a day that is 0 or above 366
+-- the last day of a year of two digits: 366 where it is divisible by 4, as 00 is, and 365 elsewhere
+abbrev pub lastDay : ℕ → ℕ
+lastDay year = cond (eqb (year % 4) 0) 366 365
+
+-- 8: a year above 99, or a day that is 0 or after the year's last
 abbrev pub wrongDate : ℕ → ℕ → Bool
-wrongDate year day = ltb 99 year || (eqb day 0 || ltb 366 day)
+wrongDate year day = ltb 99 year || (eqb day 0 || ltb (lastDay year) day)
 
 -- the checks, by the line of the sample rate
 abbrev pub checksBy : SampleRate → Judged → List Check

@@ -4,7 +4,7 @@ ghost use mathlib.Core.Bool.{not};
 ghost use Prim.Native.Nat.{_*_};
 ghost use lib.Dec.{eqb};
 ghost use Rattle.answers.specs.Refusal.{first};
-ghost use Rattle.checks.specs.Checks.{wrongDate, checks};
+ghost use Rattle.checks.specs.Checks.{lastDay, wrongDate, checks};
 
 // The last millisecond of a day.
 pub const LAST_MS: u64 = 86_399_999;
@@ -38,11 +38,20 @@ fn wrong_length(bytes: usize, words: u64) -> bool
     (bytes % 2 != 0) | (whole != words)
 }
 
+// The last day of a year of two digits.
+pub fn last_day(year: u64) -> u64
+    ensures { λ r. ⌜ r ≡ lastDay year ⌝ }
+{
+    let leap = year % 4 == 0;
+    if leap { 366 } else { 365 }
+}
+
 // Whether there is no such date.
 pub fn wrong_date(year: u64, day: u64) -> bool
     ensures { λ r. ⌜ r ≡ wrongDate year day ⌝ }
 {
-    (year > 99) | ((day == 0) | (day > 366))
+    let last = last_day(year);
+    (year > 99) | ((day == 0) | (day > last))
 }
 
 // The number of the first check of 1 to 11 that applies, or 0. Each line has the checks after its own as what else is given, so

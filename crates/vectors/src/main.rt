@@ -3,6 +3,7 @@
 use index_model::Opening;
 use index_model::WIDTH;
 use index_open::OpenAnswer;
+use index_query::ConsistencyAnswer;
 use libc::STDOUT_FILENO;
 
 // Bytes of the lister's case: 390 words.
@@ -48,11 +49,26 @@ fn refusal_of(bytes: &[u8; CASE_BYTES]) -> u8 {
     record::refusal_of(bytes)
 }
 
-// Word 6 holds the year in its first seven bits and the day in the other nine.
-fn date_refusal(date: u16) -> u8 {
+// A record of this date, read. Word 6 holds the year in its first seven bits and the day in the other nine.
+fn refusal_read(date: u16) -> u8 {
     let mut bytes = lister_case();
     set_word(&mut bytes, 6, date);
     refusal_of(&bytes)
+}
+
+// A header of this date, written.
+fn refusal_written(date: u16) -> u8 {
+    let mut bytes = lister_case();
+    let answer = record::read_header(&bytes);
+    let mut values = answer.values;
+    values[header::AT_YEAR] = (date / 512) as u64;
+    values[header::AT_DAY] = (date % 512) as u64;
+    record::write_header(&mut bytes, values)
+}
+
+fn print_date(asked: &[u8], date: u16) {
+    print_line(asked, refusal_read(date));
+    print_line(b"  written: ", refusal_written(date));
 }
 
 // At 200 samples a second two records fill a second: the refusals of the first, the second and the third that are put.
@@ -83,13 +99,60 @@ fn put_again(
     index_update::insert(o, bytes, rows, seconds)
 }
 
+fn refusal_of_test(o: Opening, rows: &[u32; 3 * WIDTH], seconds: &[u32; WIDTH]) -> u8 {
+    match index_query::is_consistent(o, rows, seconds) {
+        ConsistencyAnswer::Consistent(_) => 0,
+        ConsistencyAnswer::Refused(n) => n,
+    }
+}
+
+// The refusals of the later calls for an opening value: take out and ask of what `print_puts` put.
+fn print_later(o: Opening, rows: &mut [u32; 3 * WIDTH], seconds: &mut [u32; WIDTH]) {
+    let bytes = lister_case();
+    print_line(b"  put: ", put_again(o, &bytes, rows, seconds));
+    print_line(b"  take out: ", index_update::remove(o, 1, rows, seconds));
+    print_line(
+        b"  ask: ",
+        index_query::query(o, 43_200, rows, seconds).refusal,
+    );
+    print_line(b"  test: ", refusal_of_test(o, rows, seconds));
+}
+
+// An opening value that holds another date than its pattern had, day 366 of a year.
+fn holding_day_366(o: Opening, year: u64) -> Opening {
+    Opening {
+        first_second: o.first_second,
+        second_count: o.second_count,
+        highest_number: o.highest_number,
+        sample_rate_hz: o.sample_rate_hz,
+        tape_number: o.tape_number,
+        year,
+        day: 366,
+        spacecraft: o.spacecraft,
+        spc: o.spc,
+    }
+}
+
+// Day 366 held of a year without one, and of a year that has one and is not the records'.
+fn print_held(o: Opening, rows: &mut [u32; 3 * WIDTH], seconds: &mut [u32; WIDTH]) {
+    io::write_all(STDOUT_FILENO, b"day 366 of year 86 held:\n");
+    print_later(holding_day_366(o, 86), rows, seconds);
+    io::write_all(STDOUT_FILENO, b"day 366 of year 84 held:\n");
+    print_later(holding_day_366(o, 84), rows, seconds);
+}
+
+fn print_calls(o: Opening, rows: &mut [u32; 3 * WIDTH], seconds: &mut [u32; WIDTH]) {
+    print_puts(o, rows, seconds);
+    print_held(o, rows, seconds);
+}
+
 // An index of one second, from noon on, for the records 1 to 3.
 fn fill_a_second() {
     let pattern = lister_case();
     let mut rows = [7u32; 3 * WIDTH];
     let mut seconds = [7u32; WIDTH];
     match index_open::open(&pattern, 43_200, 1, 3, &mut rows, &mut seconds) {
-        OpenAnswer::Opened(o) => print_puts(o, &mut rows, &mut seconds),
+        OpenAnswer::Opened(o) => print_calls(o, &mut rows, &mut seconds),
         OpenAnswer::Refused(n) => print_line(b"opening refused: ", n),
     }
 }
@@ -98,7 +161,11 @@ fn main() {
     let bytes = lister_case();
     print_line(b"the lister's case: ", record::refusal_of(&bytes));
     print_line(b"79 bytes: ", record::refusal_of(&bytes[0..79]));
-    print_line(b"day 366 of year 84: ", date_refusal(84 * 512 + 366));
-    print_line(b"day 367 of year 84: ", date_refusal(84 * 512 + 367));
+    print_date(b"day 366 of year 84: ", 84 * 512 + 366);
+    print_date(b"day 367 of year 84: ", 84 * 512 + 367);
+    print_date(b"day 366 of year 86: ", 86 * 512 + 366);
+    print_date(b"day 365 of year 86: ", 86 * 512 + 365);
+    print_date(b"day 366 of year 00: ", 366);
+    print_date(b"day 366 of year 99: ", 99 * 512 + 366);
     fill_a_second();
 }
