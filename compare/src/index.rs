@@ -359,7 +359,8 @@ impl History {
         (self.given.year, self.given.day)
     }
 
-    /// Compares a call of some kind, which turns on a date: its answer, every cell, and the parts of memory that only this call has.
+    /// Compares a call of some kind: its answer, every cell, and the parts of memory that only this call has. `date` is the one that
+    /// the answer turns on, if on any.
     fn compare<A: Answer>(
         &mut self,
         run: &mut Run,
@@ -375,8 +376,12 @@ impl History {
         let outcome = match said {
             Said::Is(expected) => {
                 let number = expected.number();
-                let day = if let ("", 0 | 8) | ("forged ", 13) = (whose, number) { day_word(date) } else { "" };
-                format!("{whose}{kind}{day}{number}")
+                let turns = match (whose, number) {
+                    ("", 0 | 8) => true,
+                    ("forged ", 13) => date != (self.opened.year, self.opened.day),
+                    _ => false,
+                };
+                format!("{whose}{kind}{}{number}", if turns { day_word(date) } else { "" })
             }
             Said::Open(_) => format!("{whose}left open"),
         };
