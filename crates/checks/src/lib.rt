@@ -39,7 +39,7 @@ fn wrong_length(bytes: usize, words: u64) -> bool
 }
 
 // The last day of a year of two digits.
-pub fn last_day(year: u64) -> u64
+fn last_day(year: u64) -> u64
     ensures { λ r. ⌜ r ≡ lastDay year ⌝ }
 {
     let leap = year % 4 == 0;

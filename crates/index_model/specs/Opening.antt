@@ -34,7 +34,7 @@ limitsWrong o =
     || ltb daySeconds (o .«second_count»)
     || ltb daySeconds (o .«first_second» + o .«second_count»)
 
--- a held rate, tape, year or day that 5, 7 or 8 refuses
+-- a held rate, tape number or date that 5, 7 or 8 refuses
 unfoldable pub heldWrong : Opening → Bool
 heldWrong o = isNoRate (sampleRateOf (o .«sample_rate_hz»)) || eqb (o .«tape_number») 0 || wrongDate (o .year) (o .day)
 

@@ -50,7 +50,7 @@ fn limits_wrong(o: Opening) -> bool
         | past
 }
 
-// Whether the held rate, tape, year or day is one that 5, 7 or 8 refuses.
+// Whether the held rate, tape number or date is one that 5, 7 or 8 refuses.
 fn held_wrong(o: Opening) -> bool
     ensures { λ r. ⌜ r ≡ heldWrong o ⌝ }
 {

@@ -71,8 +71,8 @@ fn print_date(asked: &[u8], date: u16) {
     print_line(b"  written: ", refusal_written(date));
 }
 
-// At 200 samples a second two records fill a second: the refusals of the first, the second and the third that are put.
-fn print_puts(o: Opening, rows: &mut [u32; 3 * WIDTH], seconds: &mut [u32; WIDTH]) {
+// At 200 samples a second two records fill a second: the refusals of the first, the second and the third that are inserted.
+fn print_inserts(o: Opening, rows: &mut [u32; 3 * WIDTH], seconds: &mut [u32; WIDTH]) {
     let mut bytes = lister_case();
     print_line(
         b"record 1 of a second: ",
@@ -81,16 +81,16 @@ fn print_puts(o: Opening, rows: &mut [u32; 3 * WIDTH], seconds: &mut [u32; WIDTH
     set_word(&mut bytes, 2, 2);
     print_line(
         b"record 2 of the second: ",
-        put_again(o, &bytes, rows, seconds),
+        insert_again(o, &bytes, rows, seconds),
     );
     set_word(&mut bytes, 2, 3);
     print_line(
         b"record 3 of the second: ",
-        put_again(o, &bytes, rows, seconds),
+        insert_again(o, &bytes, rows, seconds),
     );
 }
 
-fn put_again(
+fn insert_again(
     o: Opening,
     bytes: &[u8; CASE_BYTES],
     rows: &mut [u32; 3 * WIDTH],
@@ -106,19 +106,19 @@ fn refusal_of_test(o: Opening, rows: &[u32; 3 * WIDTH], seconds: &[u32; WIDTH]) 
     }
 }
 
-// The refusals of the later calls for an opening value: take out and ask of what `print_puts` put.
+// The refusals of the calls after opening, with this value of an opening: record 1 and its second are those of `print_inserts`.
 fn print_later(o: Opening, rows: &mut [u32; 3 * WIDTH], seconds: &mut [u32; WIDTH]) {
     let bytes = lister_case();
-    print_line(b"  put: ", put_again(o, &bytes, rows, seconds));
-    print_line(b"  take out: ", index_update::remove(o, 1, rows, seconds));
+    print_line(b"  insert: ", insert_again(o, &bytes, rows, seconds));
+    print_line(b"  remove: ", index_update::remove(o, 1, rows, seconds));
     print_line(
-        b"  ask: ",
+        b"  query: ",
         index_query::query(o, 43_200, rows, seconds).refusal,
     );
     print_line(b"  test: ", refusal_of_test(o, rows, seconds));
 }
 
-// An opening value that holds another date than its pattern had, day 366 of a year.
+// The value of an opening, but for its date: day 366 of a year.
 fn holding_day_366(o: Opening, year: u64) -> Opening {
     Opening {
         first_second: o.first_second,
@@ -133,7 +133,7 @@ fn holding_day_366(o: Opening, year: u64) -> Opening {
     }
 }
 
-// Day 366 held of a year without one, and of a year that has one and is not the records'.
+// A held day 366, in a year that has none and in one that has it but is not the records'.
 fn print_held(o: Opening, rows: &mut [u32; 3 * WIDTH], seconds: &mut [u32; WIDTH]) {
     io::write_all(STDOUT_FILENO, b"day 366 of year 86 held:\n");
     print_later(holding_day_366(o, 86), rows, seconds);
@@ -142,7 +142,7 @@ fn print_held(o: Opening, rows: &mut [u32; 3 * WIDTH], seconds: &mut [u32; WIDTH
 }
 
 fn print_calls(o: Opening, rows: &mut [u32; 3 * WIDTH], seconds: &mut [u32; WIDTH]) {
-    print_puts(o, rows, seconds);
+    print_inserts(o, rows, seconds);
     print_held(o, rows, seconds);
 }
 
