@@ -2,6 +2,9 @@
  * proved to answer as its promise there says, for every input. docs/FORMAT.md defines the record, the refusals and the index of
  * seconds.
  *
+ * Records are of one of two editions of the format, that of 1985 (RSC-11-10) or that of 1992 (RSC-11-11). The caller names it by
+ * its number; any other number is 25, before every other answer.
+ *
  * A buffer is a pointer and its number of elements. Pointers are never null, buffers that a call writes to overlap no other
  * argument, and nobody else uses them during the call; nothing else is asked of a caller. Any number of elements is taken.
  *
@@ -22,34 +25,42 @@ extern "C" {
 /* The refusal numbers of docs/FORMAT.md, "Refusal numbers". Where several apply, the first in the order of the call is given. */
 enum odr_refusal_number {
     ODR_NONE = 0,                   /* no refusal */
-    ODR_TOO_SHORT = 1,              /* fewer than 80 bytes; on a reel also a word 3 below 40 */
+    ODR_TOO_SHORT = 1,              /* fewer bytes than the edition's header, 80 or 166; on a reel also word 3 below 40 or 83 */
     ODR_WRONG_LENGTH = 2,           /* the bytes are not twice word 3; on a reel: fewer are left than that */
-    ODR_NOT_8_BITS = 3,             /* conversion bit 1 */
+    ODR_NOT_8_BITS = 3,             /* conversion bit 1 in 1985, 0 in 1992 */
     ODR_COMPRESSED = 4,             /* compression is not 0001 */
-    ODR_NO_SUCH_RATE = 5,           /* none of the seven sample rates */
-    ODR_NOT_THE_RATES_LENGTH = 6,   /* the record's length is neither of its rate's two */
+    ODR_NO_SUCH_RATE = 5,           /* none of the edition's sample rates, seven or nineteen */
+    ODR_NOT_THE_RATES_LENGTH = 6,   /* the record's length is none of its rate's: two in 1985, one in 1992 */
     ODR_NUMBER_ZERO = 7,            /* tape or record number 0 */
     ODR_NO_SUCH_DATE = 8,           /* year above 99, or day 0 or above 365 (366 in years divisible by 4, 00 too) */
     ODR_PAST_THE_DAY = 9,           /* record or readback time tag above 86,399,999 ms */
     ODR_NO_DIGIT = 10,              /* a decimal digit above 9 */
     ODR_WRONG_SYNC = 11,            /* clock origin 1 and a sync word other than A55A hex */
     ODR_NO_SUCH_SAMPLE = 12,        /* a channel's buffer is too short for the record's samples, or there is no such sample */
-    ODR_WRONG_LIMITS = 13,          /* of an index */
+    ODR_WRONG_LIMITS = 13,          /* of an index, or of the edition, rate, tape number or date that its opening holds */
     ODR_TOO_FEW_CELLS = 14,         /* of an index */
-    ODR_OTHER_REEL = 15,            /* the record is of another reel than the index */
+    ODR_OTHER_REEL = 15,            /* the record is of another edition or reel than the index */
     ODR_NUMBER_OUTSIDE = 16,        /* the record number is not one of 1 to the index's highest */
     ODR_SECOND_OUTSIDE = 17,        /* the second is not one of the index's window */
     ODR_SECOND_FULL = 18,           /* the second holds as many other records as a second has */
     ODR_NOT_HELD = 19,              /* no record of that number is held */
     ODR_NO_SUCH_SEGMENT = 20,       /* the segments are 7, 5, 2, 6, 10, 4 and 8 */
     ODR_TEXT_TOO_LONG = 21,         /* the buffer is too short for the text */
-    ODR_VALUE_TOO_WIDE = 22,        /* a value to be written has more bits than its field */
+    ODR_VALUE_TOO_WIDE = 22,        /* a value to be written does not fit into the bits of its field */
     ODR_SEGMENT_NOT_NEW = 23,       /* in neither record */
-    ODR_INPUT_TOO_LONG = 24         /* only as a line of a listing: the input is longer than ODR_LONGEST_INPUT */
+    ODR_INPUT_TOO_LONG = 24,        /* only as a line of a listing: the input is longer than ODR_LONGEST_INPUT */
+    ODR_NO_SUCH_EDITION = 25,       /* the edition named is neither 1985 nor 1992 */
+    ODR_NO_SEGMENTS = 26            /* records of 1992 have no monitor segments */
+};
+
+/* The editions of the format. */
+enum odr_edition {
+    ODR_EDITION_1985 = 1985,  /* header of 80 bytes, samples, monitor words */
+    ODR_EDITION_1992 = 1992   /* header of 166 bytes, samples, nothing after them */
 };
 
 enum {
-    ODR_LONGEST_RECORD = 4390,   /* bytes of the longest accepted record: 2,195 words */
+    ODR_LONGEST_RECORD = 4390,   /* bytes of the longest accepted record: 2,195 words, in 1985; the longest of 1992 has 4,166 */
     ODR_LONGEST_SEGMENT = 90,    /* bytes of the longest monitor segment: 45 words */
     ODR_CELLS = 20,              /* cells of a row, and of a second */
     ODR_LONGEST_INPUT = 65536,   /* a longer one gets the line refused,24 */
@@ -57,17 +68,19 @@ enum {
     ODR_FINISHED = 255           /* what odr_step answers at the end of a reel: no refusal has this number */
 };
 
-/* ---- Records. A record is any bytes; each call on one gives 1 to 11 where they are not accepted. */
+/* ---- Records. A record is any bytes; each call on one gives 25 for an unknown edition, and 1 to 11 where they are not an
+ * accepted record of the edition named. */
 
-/* 1 to 11, or 0 where the bytes are an accepted record. */
-uint8_t odr_refusal(const uint8_t *record, size_t record_len);
+/* 25, 1 to 11, or 0 where the bytes are an accepted record of the edition. */
+uint8_t odr_refusal(uint64_t edition, const uint8_t *record, size_t record_len);
 
-/* The fields of a header: the place of each among its values. docs/FORMAT.md, "The record", has each field's bits and unit. */
+/* The fields of a header: the place of each among its values. docs/FORMAT.md, "The record", has each field's bits and unit.
+ * Places 0 to 39, 41 and 42 have the same field in both editions; a list of values is one of the edition that its call names. */
 enum odr_field {
     ODR_CLOCK_ORIGIN = 0,            /* 1: the time is the station clock's */
     ODR_SESSION_START = 1,
     ODR_COPY_ERROR = 2,
-    ODR_CONVERSION = 3,              /* 0: samples of 8 bits */
+    ODR_CONVERSION = 3,              /* samples of 8 bits: 0 in 1985, 1 in 1992 */
     ODR_COMPRESSION = 4,             /* 1: none */
     ODR_TAPE_NUMBER = 5,
     ODR_RECORD_NUMBER = 6,
@@ -97,20 +110,31 @@ enum odr_field {
     ODR_FREQUENCY_RATE_DIGITS = 30,  /* odr_frequency_rate gives the rate of these three */
     ODR_FREQUENCY_RATE_POWER = 31,
     ODR_FREQUENCY_RATE_SIGN = 32,    /* 1 is plus */
-    ODR_PHASE_1 = 33,                /* counts of 1/256 cycle */
+    ODR_PHASE_1 = 33,                /* counts of 1/256 cycle in 1985, of 1/1,048,576 in 1992 */
     ODR_PHASE_2 = 34,
     ODR_SELECTOR_1 = 35,
     ODR_SELECTOR_2 = 36,
     ODR_SELECTOR_3 = 37,
     ODR_SELECTOR_4 = 38,
     ODR_COUNTER_TAG_MS = 39,
-    ODR_FILTER = 40,
     ODR_SAMPLE_RATE_HZ = 41,         /* samples a second in each channel */
     ODR_SYNC_WORD = 42,
+
+    /* 1985 alone. Places 46 and 47 have no field: they are read as 0, and writing any other value there is 22. */
+    ODR_FILTER = 40,
     ODR_WORD_39 = 43,
     ODR_REGISTER_1 = 44,
     ODR_REGISTER_2 = 45,
-    ODR_HEADER_VALUES = 46           /* how many there are */
+
+    /* 1992 alone. */
+    ODR_RF_CONFIGURATION = 40,           /* as the operator selected it: 1 prime, 2 cross, 3 Faraday rotation */
+    ODR_RF_CONFIGURATION_REPORTED = 43,  /* the same codes, as the switch reported it */
+    ODR_TIME_OFFSET_DAYS = 44,           /* of the predict set's times, with the seconds */
+    ODR_TIME_OFFSET_SIGN = 45,           /* 1 is minus, for the days and the seconds */
+    ODR_TIME_OFFSET_SECONDS = 46,
+    ODR_FREQUENCY_OFFSET = 47,           /* units of 1/1,048,576 Hz, signed: (int64_t)value[ODR_FREQUENCY_OFFSET] */
+
+    ODR_HEADER_VALUES = 48  /* how many there are, in either edition */
 };
 
 /* The values of a header: value[ODR_DAY] is the day. */
@@ -118,56 +142,59 @@ typedef struct {
     uint64_t value[ODR_HEADER_VALUES];
 } odr_header;
 
-/* The header of a record. 1 to 11, and then the header lent stays as it was. */
-uint8_t odr_read_header(const uint8_t *record, size_t record_len, odr_header *header);
+/* The header of a record. 25, 1 to 11, and then the header lent stays as it was. */
+uint8_t odr_read_header(uint64_t edition, const uint8_t *record, size_t record_len, odr_header *header);
 
-/* The values go into the header of the record, whose other bits stay; of what the record held before only its length is judged.
- * 1 to 11 of the values, 22. */
-uint8_t odr_write_header(uint8_t *record, size_t record_len, const odr_header *header);
+/* The values go into the header of the record, whose other bits stay, words 42 to 79, 82 and 83 of 1992 among them; of what the
+ * record held before only its length is judged. 25, 1 to 11 of the values, 22. */
+uint8_t odr_write_header(uint64_t edition, uint8_t *record, size_t record_len, const odr_header *header);
 
-/* The frequency rate in units of 0.00001 Hz/s. 1 to 11. */
+/* The frequency rate in units of 0.00001 Hz/s, in both editions. 25, 1 to 11. */
 typedef struct {
     uint8_t refusal;
     int64_t units;
 } odr_frequency_rate_answer;
-odr_frequency_rate_answer odr_frequency_rate(const uint8_t *record, size_t record_len);
+odr_frequency_rate_answer odr_frequency_rate(uint64_t edition, const uint8_t *record, size_t record_len);
 
-/* What follows from a sample rate, one of 50,000, 20,000, 10,000, 5,000, 2,000, 1,000 and 200: the samples that each channel has
- * in a record, so how long a channel's buffer must be; the records of a second; the microseconds from a sample to the next. 5. */
+/* What follows from a sample rate: the samples that each channel has in a record, so how long a channel's buffer must be; the
+ * records of a second; the microseconds from a sample to the next. Both editions have 50,000, 20,000, 10,000, 5,000, 2,000, 1,000
+ * and 200; 1992 also has 31,250, 25,000, 15,625, 12,500, 6,250, 4,000, 3,125, 2,500, 1,250, 500, 400 and 250. 25, 5. */
 typedef struct {
     uint8_t refusal;
     uint64_t samples;
     uint64_t records;
     uint64_t interval_us;
 } odr_sample_rate_answer;
-odr_sample_rate_answer odr_sample_rate(uint64_t hz);
+odr_sample_rate_answer odr_sample_rate(uint64_t edition, uint64_t hz);
 
-/* The samples of channels 1 to 4, to the start of each buffer; what stands behind them there stays. 1 to 11, 12 where a buffer
- * holds fewer than the record's samples. */
-uint8_t odr_read_samples(const uint8_t *record, size_t record_len, int8_t *one, size_t one_len, int8_t *two, size_t two_len,
-                         int8_t *three, size_t three_len, int8_t *four, size_t four_len);
+/* The samples of channels 1 to 4, from byte 80 or 166 of the record on, to the start of each buffer; what stands behind them
+ * there stays. 25, 1 to 11, 12 where a buffer holds fewer than the record's samples. */
+uint8_t odr_read_samples(uint64_t edition, const uint8_t *record, size_t record_len, int8_t *one, size_t one_len,
+                         int8_t *two, size_t two_len, int8_t *three, size_t three_len, int8_t *four, size_t four_len);
 
-/* Samples of channels 1 to 4 into the record, whose other bytes stay. 1 to 11, 12 where a buffer has fewer than the record. */
-uint8_t odr_write_samples(uint8_t *record, size_t record_len, const int8_t *one, size_t one_len,
+/* Samples of channels 1 to 4 into the record, from byte 80 or 166 on; its other bytes stay. 25, 1 to 11, 12 where a buffer has
+ * fewer than the record. */
+uint8_t odr_write_samples(uint64_t edition, uint8_t *record, size_t record_len, const int8_t *one, size_t one_len,
                           const int8_t *two, size_t two_len, const int8_t *three, size_t three_len,
                           const int8_t *four, size_t four_len);
 
-/* The time of sample k, counted from 0, in microseconds of the day. 1 to 11, 12 where the record has no sample k. */
+/* The time of sample k, counted from 0, in microseconds of the day, rounded down. 25, 1 to 11, 12 where the record has no
+ * sample k. */
 typedef struct {
     uint8_t refusal;
     uint64_t microseconds;
 } odr_time_answer;
-odr_time_answer odr_sample_time(const uint8_t *record, size_t record_len, uint64_t k);
+odr_time_answer odr_sample_time(uint64_t edition, const uint8_t *record, size_t record_len, uint64_t k);
 
-/* The two phases in cycles, exactly. 1 to 11. */
+/* The two phases in cycles, exactly: the counts over 256 in 1985, over 1,048,576 in 1992. 25, 1 to 11. */
 typedef struct {
     uint8_t refusal;
     double first;
     double second;
 } odr_phases_answer;
-odr_phases_answer odr_phases(const uint8_t *record, size_t record_len);
+odr_phases_answer odr_phases(uint64_t edition, const uint8_t *record, size_t record_len);
 
-/* The totals of a record's samples, for channels 1 to 4. 1 to 11. */
+/* The totals of a record's samples, for channels 1 to 4. 25, 1 to 11. */
 typedef struct {
     int64_t sum;
     uint64_t squares;
@@ -178,25 +205,27 @@ typedef struct {
     uint8_t refusal;
     odr_total channels[4];
 } odr_totals_answer;
-odr_totals_answer odr_totals(const uint8_t *record, size_t record_len);
+odr_totals_answer odr_totals(uint64_t edition, const uint8_t *record, size_t record_len);
 
 /* A monitor segment, from this record if it is new there, else from the earlier one: its bytes are the first `length` ones, and 0
- * follows. 1 to 11 of this record, then of the earlier one, 20, 23. */
+ * follows. The edition is that of both records. 25, 1 to 11 of this record, then of the earlier one; then 26 in 1992, which has
+ * no segments; 20, 23. */
 typedef struct {
     uint8_t refusal;
     size_t length;
     uint8_t bytes[ODR_LONGEST_SEGMENT];
 } odr_segment_answer;
-odr_segment_answer odr_segment(const uint8_t *this_record, size_t this_len, const uint8_t *earlier, size_t earlier_len,
-                               uint64_t number);
+odr_segment_answer odr_segment(uint64_t edition, const uint8_t *this_record, size_t this_len, const uint8_t *earlier,
+                               size_t earlier_len, uint64_t number);
 
-/* ---- Reels: records back to back. */
+/* ---- Reels: records of one edition, back to back. */
 
-/* What stands at a place: a record, from `start` up to `end`, which is also the next place; or ODR_FINISHED at the end of the
- * reel and past it; or 1 to 11. Where no record stands, `start` and `end` are 0. So this loop ends on every reel:
+/* What stands at a place: 25 on any reel, finished or empty too; else a record, from `start` up to `end`, which is also the next
+ * place; or ODR_FINISHED at the end of the reel and past it; or 1 to 11. Where no record stands, `start` and `end` are 0. So this
+ * loop ends on every reel:
  *
  *     odr_step_answer step;
- *     for (size_t place = 0; (step = odr_step(reel, reel_len, place)).answer == 0; place = step.end)
+ *     for (size_t place = 0; (step = odr_step(edition, reel, reel_len, place)).answer == 0; place = step.end)
  *         use(reel + step.start, step.end - step.start);
  */
 typedef struct {
@@ -204,7 +233,7 @@ typedef struct {
     size_t start;
     size_t end;
 } odr_step_answer;
-odr_step_answer odr_step(const uint8_t *reel, size_t reel_len, size_t place);
+odr_step_answer odr_step(uint64_t edition, const uint8_t *reel, size_t reel_len, size_t place);
 
 /* ---- The index of seconds. What opening gave goes into every later call, by value, so that no call can change it. The cells are
  * the caller's: ODR_CELLS for each record number 1 to highest_number in `rows`, and for each second of the window in `seconds`.
@@ -217,6 +246,7 @@ typedef struct {
     uint64_t first_second;
     uint64_t second_count;
     uint64_t highest_number;
+    uint64_t edition;
     uint64_t sample_rate_hz;
     uint64_t tape_number;
     uint64_t year;
@@ -229,15 +259,17 @@ typedef struct {
     odr_opening opening;
 } odr_open_answer;
 
-/* Opens an index for the reel of the pattern, a record, which is not inserted: the window is `second_count` seconds of the day
- * from `first_second` on, and record numbers go from 1 to `highest_number`. The cells of its rows and seconds become 0.
- * 1 to 11 of the pattern, 13, 14. */
-odr_open_answer odr_open(const uint8_t *pattern, size_t pattern_len, uint64_t first_second, uint64_t second_count,
-                         uint64_t highest_number, uint32_t *rows, size_t rows_len, uint32_t *seconds, size_t seconds_len);
+/* Opens an index for the edition and the reel of the pattern, a record, which is not inserted: the window is `second_count`
+ * seconds of the day from `first_second` on, and record numbers go from 1 to `highest_number`. The cells of its rows and seconds
+ * become 0. 25, 1 to 11 of the pattern, 13, 14. */
+odr_open_answer odr_open(uint64_t edition, const uint8_t *pattern, size_t pattern_len, uint64_t first_second,
+                         uint64_t second_count, uint64_t highest_number, uint32_t *rows, size_t rows_len, uint32_t *seconds,
+                         size_t seconds_len);
 
-/* Inserts a record under its number, in place of any there. 1 to 11, 13 to 18. */
-uint8_t odr_insert(odr_opening opening, const uint8_t *record, size_t record_len, uint32_t *rows, size_t rows_len,
-                   uint32_t *seconds, size_t seconds_len);
+/* Inserts a record of the edition named under its number, in place of any there. 25, 1 to 11, 13, 14, 15 also where the edition
+ * is not that of the index, 16 to 18. */
+uint8_t odr_insert(odr_opening opening, uint64_t edition, const uint8_t *record, size_t record_len, uint32_t *rows,
+                   size_t rows_len, uint32_t *seconds, size_t seconds_len);
 
 /* Removes the record of a number. 13, 14, 16, 19. */
 uint8_t odr_remove(odr_opening opening, uint64_t number, uint32_t *rows, size_t rows_len, uint32_t *seconds, size_t seconds_len);
@@ -283,10 +315,10 @@ typedef struct {
     size_t length;
 } odr_text_answer;
 
-/* The listing's line of a record. 1 to 11, 21. */
+/* The listing's line of a record of 1985. 1 to 11, 21. */
 odr_text_answer odr_record_line(const uint8_t *record, size_t record_len, uint8_t *text, size_t text_len);
 
-/* The whole listing of a reel; 24 and any other refusal of the reel is a line of it. 21. */
+/* The whole listing of a reel of 1985; 24 and any other refusal of the reel is a line of it. 21. */
 odr_text_answer odr_list(const uint8_t *input, size_t input_len, uint8_t *text, size_t text_len);
 
 #ifdef __cplusplus

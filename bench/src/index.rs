@@ -1,12 +1,12 @@
-//! Calls on the index of seconds, and the listing: the library alone, at two sizes of the index. FORMAT: "The index of
-//! seconds", "The listing".
+//! Calls on the index of seconds, and the listing, of records of 1985: the library alone, at two sizes of the index. FORMAT: "The
+//! index of seconds", "The listing".
 
 use crate::clock::{alone, each, pair, time, ROUNDS, SHORTEST, SLOW_ROUNDS};
 use crate::records::Pool;
 use crate::table::{head, lone, row, Goal};
-use odr::{CELLS, LONGEST_LISTING};
+use odr::{CELLS, EDITION_1985, LONGEST_LISTING};
+use second::edition;
 use second::gen::{self, set_tag, set_word, Rng};
-use second::record::RATES;
 use std::hint::black_box;
 use std::time::Duration;
 
@@ -39,7 +39,8 @@ impl Index {
     }
 
     fn open(&mut self, pattern: &[u8]) {
-        let opened = odr::open(pattern, [FIRST_SECOND, self.count, self.highest], &mut self.rows, &mut self.seconds);
+        let limits = [FIRST_SECOND, self.count, self.highest];
+        let opened = odr::open(EDITION_1985, pattern, limits, &mut self.rows, &mut self.seconds);
         assert_eq!(opened.refusal, 0);
         self.opening = opened.opening;
         self.held = 0;
@@ -50,7 +51,7 @@ impl Index {
         let second = (self.count * (number - 1) / self.highest + later) % self.count;
         set_word(record, 2, number);
         set_tag(record, 7, 1000 * (FIRST_SECOND + second));
-        assert_eq!(odr::insert(self.opening, black_box(record), &mut self.rows, &mut self.seconds), 0);
+        assert_eq!(odr::insert(self.opening, EDITION_1985, black_box(record), &mut self.rows, &mut self.seconds), 0);
     }
 
     /// Inserts the next numbers, none of them held, from a place of the pool on; `step` 0 inserts one record again and again.
@@ -157,8 +158,9 @@ fn measure_test(pool: &mut Pool) {
 
 fn measure_listing(rng: &mut Rng) {
     println!("\n{:<58} {:>14}", "Listing", "library, ns");
-    for (rate, words, records) in [(RATES[0], 2_195, 14), (RATES[6], 395, 82)] {
-        let reel: Vec<u8> = (0..records).flat_map(|_| gen::record_with(rng, rate, words)).collect();
+    let edition = &edition::EDITION_1985;
+    for (rate, words, records) in [(edition.rates[0], 2_195, 14), (edition.rates[6], 395, 82)] {
+        let reel: Vec<u8> = (0..records).flat_map(|_| gen::record_with(rng, edition, rate, words)).collect();
         let mut text = [0; LONGEST_LISTING];
         let list = |_| assert_eq!(odr::list(black_box(&reel), &mut text).refusal, 0);
         lone(&format!("reel of {} bytes, {records} records", reel.len()), alone(ROUNDS, list), records, "record");

@@ -2,12 +2,13 @@
 //! seconds" and "The ledger".
 
 use crate::lent::{around, Lent};
-use crate::records::{any_bytes, date, total};
+use crate::records::{any_record, date, outcome, total};
 use crate::run::{answer, day_word, Answer, Part, Run, Said};
 use odr::{ConsistencyAnswer, MeansAnswer, OpenAnswer, SecondAnswer, CELLS};
 use second::book::{self, Ledger, Opening, SecondTotals};
+use second::edition::{edition_of, Edition, Rate, EDITIONS};
 use second::gen::{self, set_word, word, Rng};
-use second::record::{read_header, RATES};
+use second::record::read_header;
 use second::samples::Means;
 use std::ops::Range;
 
@@ -15,12 +16,12 @@ use std::ops::Range;
 const SECOND_CELL: usize = 3;
 const DAY: u64 = 86_400;
 
-fn numbers(o: &Opening) -> [u64; 9] {
-    [o.first_second, o.count, o.highest, o.rate, o.tape, o.year, o.day, o.spacecraft, o.spc]
+fn numbers(o: &Opening) -> [u64; 10] {
+    [o.first_second, o.count, o.highest, o.edition, o.rate, o.tape, o.year, o.day, o.spacecraft, o.spc]
 }
 
-fn opening_of([first_second, count, highest, rate, tape, year, day, spacecraft, spc]: [u64; 9]) -> Opening {
-    Opening { first_second, count, highest, rate, tape, year, day, spacecraft, spc }
+fn opening_of([first_second, count, highest, edition, rate, tape, year, day, spacecraft, spc]: [u64; 10]) -> Opening {
+    Opening { first_second, count, highest, edition, rate, tape, year, day, spacecraft, spc }
 }
 
 /// An opening as the library takes and gives it.
@@ -29,6 +30,7 @@ fn passed(o: &Opening) -> odr::Opening {
         first_second: o.first_second,
         second_count: o.count,
         highest_number: o.highest,
+        edition: o.edition,
         sample_rate_hz: o.rate,
         tape_number: o.tape,
         year: o.year,
@@ -44,38 +46,49 @@ fn block(i: u64) -> Range<usize> {
 }
 
 /// Opens an index with buffers of these lengths: row cells and second cells.
-fn open(run: &mut Run, pattern: Vec<u8>, limits: [u64; 3], lengths: [usize; 2]) -> Option<History> {
+fn open(run: &mut Run, edition: u64, pattern: Vec<u8>, limits: [u64; 3], lengths: [usize; 2]) -> Option<History> {
     let [first, count, highest] = limits;
-    let opened = book::open(&pattern, first, count, highest, lengths[0], lengths[1]);
+    let opened = book::open(edition, &pattern, first, count, highest, lengths[0], lengths[1]);
     let expected = answer(&opened, |o| OpenAnswer { refusal: 0, opening: passed(o) });
     let [mut rows, mut seconds] = lengths.map(|length| Lent::random(&mut run.rng, length));
     let mut record = Lent::of(&pattern);
-    let actual = odr::open(record.body(), limits, rows.body_mut(), seconds.body_mut());
+    let actual = odr::open(edition, record.body(), limits, rows.body_mut(), seconds.body_mut());
     let blocks = opened.as_ref().map_or([0, 0], |o| [o.highest, o.count]);
     let [no_rows, no_seconds] = blocks.map(|count| vec![0; block(count).start]);
     let parts = [("pattern", record.difference()), ("rows", rows.check(&no_rows)), ("seconds", seconds.check(&no_seconds))];
-    run.compare("odr_open", date(&pattern), actual, expected, &parts);
-    let opened = opened.ok()?;
-    Some(History { pattern, given: opened.clone(), opened, ledger: Ledger::default(), rows, seconds })
+    run.compare("odr_open", &outcome(edition, &pattern, expected.refusal), actual, expected, &parts);
+    let (edition, opened) = (edition_of(edition).ok()?, opened.ok()?);
+    Some(History { edition, pattern, given: opened.clone(), opened, ledger: Ledger::default(), rows, seconds })
 }
 
 /// An opening of any kind, most of them refused.
 pub fn open_any(run: &mut Run) {
     let rng = &mut run.rng;
-    let pattern = any_bytes(rng);
+    let (edition, pattern) = any_record(rng);
     let (small, second) = (rng.within(1, 5), rng.within(0, DAY - 1));
     let first = rng.pick(&[0, second, second, DAY - 1, DAY, u64::MAX]);
     let rest = DAY.saturating_sub(first);
     let count = rng.pick(&[small, small, small, 1, 0, rest, rest + 1, DAY, DAY + 1, u64::MAX]);
     let highest = rng.pick(&[small, small, small, 1, 0, 65_535, 65_536, u64::MAX]);
     let lengths = [highest, count].map(|blocks| around(rng, block(blocks.min(100)).start));
-    open(run, pattern, [first, count, highest], lengths);
+    open(run, edition, pattern.body().to_vec(), [first, count, highest], lengths);
+}
+
+/// A rate of an edition: half of the time the slowest, whose records are the shortest, else one of few records a second, or any.
+fn any_rate(rng: &mut Rng, edition: &Edition) -> Rate {
+    let few: Vec<Rate> = edition.rates.iter().copied().filter(|rate| rate.records_a_second <= 5).collect();
+    match rng.next() % 16 {
+        0 => rng.pick(edition.rates),
+        1..=7 => rng.pick(&few),
+        _ => edition.rates[edition.rates.len() - 1],
+    }
 }
 
 /// A history: an opening whose seconds get full soon, a list of calls, and at the end a query of every second.
 pub fn history(run: &mut Run) {
     let rng = &mut run.rng;
-    let rate = if rng.one_in(16) { rng.pick(&RATES) } else { RATES[rng.pick(&[6, 6, 6, 6, 5, 4, 3])] };
+    let edition = rng.pick(&EDITIONS);
+    let rate = any_rate(rng, edition);
     let full = rate.records_a_second;
     let few = if full == 2 { rng.within(1, 12) } else { full + rng.within(0, 6) };
     let (count, highest) = match rng.next() % 512 {
@@ -86,8 +99,8 @@ pub fn history(run: &mut Run) {
     let any = rng.within(0, DAY - count);
     let limits = [rng.pick(&[0, DAY - count, any, any]), count, highest];
     let lengths = [highest, count].map(|blocks| block(blocks).start + rng.pick(&[0, 0, 1, 25]));
-    let pattern = gen::record_of(rng, rate);
-    if let Some(mut history) = open(run, pattern, limits, lengths) {
+    let pattern = gen::record_of(rng, edition, rate);
+    if let Some(mut history) = open(run, edition.number, pattern, limits, lengths) {
         if run.rng.one_in(2) {
             history.fill(run, full);
         }
@@ -99,7 +112,7 @@ pub fn history(run: &mut Run) {
 }
 
 /// Gives a record, which stays accepted, another rate, year, day, tape, spacecraft or SPC. The fourth year on has as many days.
-fn to_another_reel(rng: &mut Rng, r: &mut Vec<u8>) {
+fn to_another_reel(rng: &mut Rng, edition: &Edition, r: &mut Vec<u8>) {
     let (year, day, bit) = (word(r, 6) >> 9, word(r, 6) & 511, 1 << (rng.next() % 8));
     match rng.next() % 6 {
         0 => r[1] = r[1] % 255 + 1,
@@ -108,15 +121,16 @@ fn to_another_reel(rng: &mut Rng, r: &mut Vec<u8>) {
         3 => set_word(r, 6, (year + 4) % 100 << 9 | day),
         4 => set_word(r, 6, year << 9 | day % 365 + 1),
         _ => {
-            let mut pattern = r.clone();
-            set_word(&mut pattern, 37, rng.pick(&RATES).hz);
-            *r = gen::sibling(rng, &pattern, word(r, 2), (word(r, 7) & 0x7FF) << 16 | word(r, 8));
+            let rate = rng.pick(edition.rates);
+            *r = gen::sibling_of(rng, edition, rate, r, word(r, 2), (word(r, 7) & 0x7FF) << 16 | word(r, 8));
         }
     }
 }
 
 #[derive(Clone)]
 struct History {
+    /// The edition of the index, and of its pattern.
+    edition: &'static Edition,
     pattern: Vec<u8>,
     /// What opening returned, and what is given to the calls: the same, but in a forged call.
     opened: Opening,
@@ -144,8 +158,8 @@ impl History {
     fn call(&mut self, run: &mut Run) {
         match run.rng.next() % 16 {
             0..=7 => {
-                let record = self.record(&mut run.rng);
-                self.insert(run, &record);
+                let (edition, record) = self.record(&mut run.rng);
+                self.insert(run, edition, &record);
             }
             8..=10 => {
                 let (held, any) = (self.number(&mut run.rng), run.rng.next());
@@ -180,19 +194,31 @@ impl History {
         if rng.one_in(12) { beside } else { rng.pick(&[early, early, any]) }
     }
 
-    /// A record to be inserted, most of them of the pattern's reel.
-    fn record(&self, rng: &mut Rng) -> Vec<u8> {
+    /// A record to be inserted and the edition to be named, most of them of the pattern's reel and edition. Where the record is of
+    /// the other edition, that is all in which it differs, if the other edition has the rate.
+    fn record(&self, rng: &mut Rng) -> (u64, Vec<u8>) {
         let (number, tag) = (self.number(rng), 1000 * self.second(rng) + rng.within(0, 999));
-        let (origin, error) = (rng.one_in(2), rng.one_in(6));
-        let mut record = gen::flagged(rng, &self.pattern, number, tag, origin, error);
+        let flags = [rng.one_in(2), rng.one_in(6)];
+        let mut edition = self.edition;
+        let mut record = gen::flagged(rng, edition, &self.pattern, number, tag, flags);
         if rng.one_in(12) {
-            to_another_reel(rng, &mut record);
+            edition = gen::other(edition);
+            let rate = edition.rate(self.opened.rate).unwrap_or(rng.pick(edition.rates));
+            record = gen::sibling_of(rng, edition, rate, &self.pattern, number, tag);
+        }
+        if rng.one_in(12) {
+            to_another_reel(rng, edition, &mut record);
         }
         if rng.one_in(8) {
             let refused = 1 + rng.next() % 11;
-            gen::breach(rng, &mut record, refused as u8);
+            gen::breach(rng, edition, &mut record, refused as u8);
         }
-        record
+        let named = match rng.next() % 48 {
+            0..=1 => gen::unknown_edition(rng),
+            2 => gen::other(edition).number,
+            _ => edition.number,
+        };
+        (named, record)
     }
 
     /// Inserts as many records into a second as it takes.
@@ -200,8 +226,8 @@ impl History {
         let second = self.opened.first_second;
         for number in 1..=full.min(self.opened.highest) {
             let (tag, error) = (1000 * second + number, run.rng.one_in(100));
-            let record = gen::flagged(&mut run.rng, &self.pattern, number, tag, number == 1, error);
-            self.insert(run, &record);
+            let record = gen::flagged(&mut run.rng, self.edition, &self.pattern, number, tag, [number == 1, error]);
+            self.insert(run, self.edition.number, &record);
         }
     }
 
@@ -218,7 +244,7 @@ impl History {
     /// The second of the record held under a number.
     fn second_of(&self, number: u64) -> Option<u64> {
         let record = self.ledger.records.get(&u16::try_from(number).ok()?)?;
-        Some(read_header(record).ok()?.time_tag_ms / 1000)
+        Some(read_header(self.edition.number, record).ok()?.time_tag_ms / 1000)
     }
 
     /// The lengths of the cells lent.
@@ -250,16 +276,18 @@ impl History {
         }
     }
 
-    fn insert(&mut self, run: &mut Run, record: &[u8]) {
+    /// Inserts a record as one of the edition named.
+    fn insert(&mut self, run: &mut Run, edition: u64, record: &[u8]) {
         let mut record = Lent::of(record);
-        let header = read_header(record.body()).unwrap_or_default();
-        let (number, joined) = (header.record_number, Some(header.time_tag_ms / 1000));
+        let header = read_header(edition, record.body());
+        let (number, joined) = header.map_or((0, None), |h| (h.record_number, Some(h.time_tag_ms / 1000)));
         let left = self.second_of(number);
         let [rows, seconds] = self.lengths();
-        let expected = self.ledger.put(&self.given, record.body(), rows, seconds);
+        let expected = self.ledger.put(&self.given, edition, record.body(), rows, seconds);
         let said = self.said(&expected, |_| 0, 18);
-        let actual = odr::insert(passed(&self.given), record.body(), self.rows.body_mut(), self.seconds.body_mut());
-        let mut kind = "";
+        let actual = odr::insert(passed(&self.given), edition, record.body(), self.rows.body_mut(), self.seconds.body_mut());
+        let mixed = self.whose().is_empty() && edition == gen::other(self.edition).number;
+        let mut kind = if mixed { "mixed " } else { "" };
         match said {
             Said::Open(_) => self.allow_if_accepted(actual),
             Said::Is(0) => {
@@ -359,8 +387,28 @@ impl History {
         (self.given.year, self.given.day)
     }
 
-    /// Compares a call of some kind: its answer, every cell, and the parts of memory that only this call has. `date` is the one that
-    /// the answer turns on, if on any.
+    /// What a call is given that is not the history's own.
+    fn whose(&self) -> &'static str {
+        let needed = [self.opened.highest, self.opened.count].map(|blocks| block(blocks).start);
+        let short = self.lengths().iter().zip(needed).any(|(&length, needed)| length < needed);
+        if self.given != self.opened { "forged " } else if short { "short " } else { "" }
+    }
+
+    /// What is forged, where that is what 13 or 15 turns on: the date, the edition, or a rate that only the other edition has.
+    fn forged_word(&self, number: u8) -> &'static str {
+        let Opening { edition, rate, year, day, .. } = self.given;
+        let only_edition = self.given == Opening { edition, ..self.opened.clone() };
+        let only_rate = self.given == Opening { rate, ..self.opened.clone() };
+        match (number, edition_of(edition)) {
+            (13, Err(_)) | (15, Ok(_)) if only_edition => "edition ",
+            (13, Ok(held)) if (only_edition || only_rate) && gen::other(held).rate(rate).is_ok() => "rate ",
+            (13, _) if (year, day) != (self.opened.year, self.opened.day) => day_word((year, day)),
+            _ => "",
+        }
+    }
+
+    /// Compares a call of some kind: its answer, every cell, and the parts of memory that only this call has. `date` is the one
+    /// that the answer turns on, if on any.
     fn compare<A: Answer>(
         &mut self,
         run: &mut Run,
@@ -370,42 +418,49 @@ impl History {
         said: Said<A>,
         parts: &[Part],
     ) {
-        let needed = [self.opened.highest, self.opened.count].map(|blocks| block(blocks).start);
-        let short = self.lengths().iter().zip(needed).any(|(&length, needed)| length < needed);
-        let whose = if self.given != self.opened { "forged " } else if short { "short " } else { "" };
+        let (edition, whose) = (self.edition.number, self.whose());
         let outcome = match said {
             Said::Is(expected) => {
                 let number = expected.number();
-                let turns = match (whose, number) {
-                    ("", 0 | 8) => true,
-                    ("forged ", 13) => date != (self.opened.year, self.opened.day),
-                    _ => false,
+                let word = match (whose, number) {
+                    ("", 0 | 8) => day_word(date),
+                    ("forged ", 13 | 15) => self.forged_word(number),
+                    _ => "",
                 };
-                format!("{whose}{kind}{}{number}", if turns { day_word(date) } else { "" })
+                format!("{edition} {whose}{kind}{word}{number}")
             }
-            Said::Open(_) => format!("{whose}left open"),
+            Said::Open(_) => format!("{edition} {whose}left open"),
         };
         let cells = [("rows", self.rows.difference()), ("seconds", self.seconds.difference())];
         run.compare_as(call, &outcome, actual, said, &[&cells, parts].concat());
     }
 
-    /// This history with an opening that has another number, fewer seconds or rows, day 366 of any year, or only zeros, or with
-    /// buffers that are too short.
+    /// This history with an opening that has another number, fewer seconds or rows, day 366 of any year, another edition or a rate
+    /// of either, or only zeros, or with buffers that are too short.
     fn forged(&self, rng: &mut Rng) -> History {
         let mut forged = self.clone();
         let mut numbers = numbers(&self.opened);
         let at = rng.next() as usize % numbers.len();
-        let (own, bit, rate) = (numbers[at], 1 << (rng.next() % 64), rng.pick(&RATES).hz);
+        let (own, bit, rate) = (numbers[at], 1 << (rng.next() % 64), gen::any_rate(rng).hz);
         match rng.next() % 16 {
             0..=1 => forged.rows.shorten(rng.within(0, block(self.opened.highest).start as u64 - 1) as usize),
             2..=3 => forged.seconds.shorten(rng.within(0, block(self.opened.count).start as u64 - 1) as usize),
-            4 => numbers = [0; 9],
+            4 => numbers = [0; 10],
             5 => {
                 let which = 1 + rng.next() as usize % 2;
                 numbers[which] = rng.within(1, numbers[which]);
             }
             6 => {
                 forged.given = Opening { year: rng.within(0, 99), day: 366, ..forged.given };
+                return forged;
+            }
+            7 => {
+                let edition = if rng.one_in(2) { gen::unknown_edition(rng) } else { gen::other(self.edition).number };
+                forged.given = Opening { edition, ..forged.given };
+                return forged;
+            }
+            8 => {
+                forged.given = Opening { rate, ..forged.given };
                 return forged;
             }
             _ => {

@@ -1,36 +1,76 @@
 //! A run of the differential tests: its cases, how often each outcome of each call was met, and the first difference, which ends
 //! it. FORMAT, "Refusal numbers".
 
+use second::edition::{Edition, EDITIONS};
 use second::gen::Rng;
 use std::fmt::Debug;
 
-/// Each call with every outcome that must be met: the numbers that c/odr.h names, 0 for no refusal. Kinds of one number are told
-/// apart by words: `forged` is an opening that odr_open did not return, `short` a buffer of too few cells; of an answer that is
-/// `left open` FORMAT says no more than what `Said::Open` has. A number with a star must be met on day 366 too.
-const CALLS: [(&str, &str); 20] = [
-    ("odr_refusal", "0*,1-7,8*,9-11"),
-    ("odr_read_header", "0*,1-7,8*,9-11"),
-    ("odr_write_header", "0*,1-7,8*,9-11,22"),
-    ("odr_frequency_rate", "0*,1-7,8*,9-11"),
-    ("odr_sample_rate", "50000 0,20000 0,10000 0,5000 0,2000 0,1000 0,200 0,5"),
-    ("odr_read_samples", "0*,1-7,8*,9-12"),
-    ("odr_write_samples", "0*,1-7,8*,9-12"),
-    ("odr_sample_time", "0*,1-7,8*,9-12"),
-    ("odr_phases", "0*,1-7,8*,9-11"),
-    ("odr_totals", "0*,1-7,8*,9-11"),
-    ("odr_segment", "this 0,earlier 0,this 1-11,earlier 1-11,20,23"),
-    ("odr_step", "record 0*,finished 255,1-7,8*,9-11"),
-    ("odr_open", "0*,1-7,8*,9-11,13-14"),
+/// Each call with every outcome that must be met: the numbers that c/odr.h names, 0 for no refusal. First those that must be met
+/// in each edition, the one that the call names, or of an index the one that it was opened with; then those besides. Kinds of one
+/// number are told apart by words:
+/// - `other's`: a record that the other edition accepts, or a rate that it has;
+/// - `few bytes`: too few for a header of any edition, `finished`: at the end of a reel or past it;
+/// - `value`, `least`, `greatest`, `below`, `above`: a value that is no field in 1985, the frequency offset at and past its ends;
+/// - `segment`, `no segment`: whether 1985 has a segment of that number;
+/// - `mixed`: an insert that names the other edition than the index has;
+/// - `forged`: an opening that odr_open did not return, and behind it `edition`, only the edition is forged (for 13 to an unknown
+///   one), or `rate`, the rate that is held is only of the other edition;
+/// - `short`: a buffer of too few cells;
+/// - `left open`: an answer of which FORMAT says no more than what `Said::Open` has.
+///
+/// A number with a star must be met on day 366 too.
+const CALLS: [(&str, &str, &str); 20] = [
+    ("odr_refusal", "0*,1-7,8*,9-11,other's 3", "25,few bytes 25"),
+    ("odr_read_header", "0*,1-7,8*,9-11,other's 3", "25,few bytes 25"),
+    (
+        "odr_write_header",
+        "0*,1-7,8*,9-11,22",
+        "25,few bytes 25,1985 value 46 22,1985 value 47 22,1992 least 0,1992 greatest 0,1992 below 22,1992 above 22",
+    ),
+    ("odr_frequency_rate", "0*,1-7,8*,9-11,other's 3", "25,few bytes 25"),
+    (
+        "odr_sample_rate",
+        "50000 0,20000 0,10000 0,5000 0,2000 0,1000 0,200 0,5",
+        "25,1985 other's 5,1992 31250 0,1992 25000 0,1992 15625 0,1992 12500 0,1992 6250 0,1992 4000 0,1992 3125 0,1992 2500 0,\
+         1992 1250 0,1992 500 0,1992 400 0,1992 250 0",
+    ),
+    ("odr_read_samples", "0*,1-7,8*,9-12,other's 3", "25,few bytes 25"),
+    ("odr_write_samples", "0*,1-7,8*,9-12,other's 3", "25,few bytes 25"),
+    ("odr_sample_time", "0*,1-7,8*,9-12,other's 3", "25,few bytes 25"),
+    ("odr_phases", "0*,1-7,8*,9-11,other's 3", "25,few bytes 25"),
+    ("odr_totals", "0*,1-7,8*,9-11,other's 3", "25,few bytes 25"),
+    ("odr_segment", "this 1-11,earlier 1-11", "25,1985 this 0,1985 earlier 0,1985 20,1985 23,1992 segment 26,1992 no segment 26"),
+    ("odr_step", "record 0*,finished 255,1-7,8*,9-11,other's 3", "25,finished 25"),
+    ("odr_open", "0*,1-7,8*,9-11,13-14,other's 3", "25,few bytes 25"),
     (
         "odr_insert",
-        "0*,in place 0*,moved 0*,1-7,8*,9-11,15-18,short 1-11,short 14,forged 1-11,forged 13*,forged 14-17,forged left open",
+        "0*,in place 0*,moved 0*,1-7,8*,9-11,15-18,25,mixed 1-7,mixed 8*,mixed 9-11,mixed 15,short 1-11,short 14,short 25,\
+         forged 1-11,forged 13*,forged edition 13,forged rate 13,forged 14-15,forged edition 15,forged 16-17,forged 25,\
+         forged left open",
+        "",
     ),
-    ("odr_remove", "0*,16,19,short 14,forged 13*,forged 14,forged 16,forged left open"),
-    ("odr_query", "0*,empty 0*,kept 0*,17,short 14,forged 13*,forged 14,forged 17,forged left open"),
-    ("odr_second_means", "0*,empty 0*,17,short 14,forged 13*,forged 14,forged 17,forged left open"),
-    ("odr_is_consistent", "yes 0*,no 0*,short 14,forged yes 0,forged no 0,forged 13*,forged 14,forged left open"),
-    ("odr_record_line", "0*,1-7,8*,9-11,21"),
-    ("odr_list", "0,line 1-11,line 24,21"),
+    (
+        "odr_remove",
+        "0*,16,19,short 14,forged 13*,forged edition 13,forged rate 13,forged 14,forged 16,forged left open",
+        "",
+    ),
+    (
+        "odr_query",
+        "0*,empty 0*,kept 0*,17,short 14,forged 13*,forged edition 13,forged rate 13,forged 14,forged 17,forged left open",
+        "",
+    ),
+    (
+        "odr_second_means",
+        "0*,empty 0*,17,short 14,forged 13*,forged edition 13,forged rate 13,forged 14,forged 17,forged left open",
+        "",
+    ),
+    (
+        "odr_is_consistent",
+        "yes 0*,no 0*,short 14,forged yes 0,forged no 0,forged 13*,forged edition 13,forged rate 13,forged 14,forged left open",
+        "",
+    ),
+    ("odr_record_line", "", "0*,1-7,8*,9-11,other's 3,21"),
+    ("odr_list", "", "0,line 1-11,other's line 3,line 24,21"),
 ];
 
 const DAY_366: &str = "day 366 ";
@@ -40,10 +80,17 @@ pub fn day_word((year, day): (u64, u64)) -> &'static str {
     if day == 366 && year <= 99 { DAY_366 } else { "" }
 }
 
-/// The outcome of a call on a record or a header of this date.
-pub fn dated(date: (u64, u64), number: u8) -> String {
-    let day = if [0, 8].contains(&number) { day_word(date) } else { "" };
-    format!("{day}{number}")
+/// The outcome of a call that names an edition: of this number, and in words before it.
+pub fn named(edition: u64, words: &str, number: u8) -> String {
+    if number == 25 { format!("{words}{number}") } else { format!("{edition} {words}{number}") }
+}
+
+/// The outcomes of a call: those of its first list in each edition, and those of its second.
+fn all_outcomes(each: &str, besides: &str) -> Vec<String> {
+    let of = |edition: &Edition| -> Vec<String> {
+        outcomes(each).iter().map(|outcome| format!("{} {outcome}", edition.number)).collect()
+    };
+    [EDITIONS.map(of).concat(), outcomes(besides)].concat()
 }
 
 /// The outcomes of such a list: a range stands for each of its numbers.
@@ -57,7 +104,7 @@ fn outcomes(list: &str) -> Vec<String> {
             _ => vec![item.to_string()],
         }
     };
-    list.split(',').flat_map(each).collect()
+    list.split(',').filter(|item| !item.is_empty()).flat_map(each).collect()
 }
 
 /// An answer of the library. Beside a refusal's number every other member is 0.
@@ -156,13 +203,13 @@ pub struct Run {
 
 impl Run {
     pub fn new(seed: u64) -> Self {
-        let met = CALLS.map(|(call, list)| (call, outcomes(list).into_iter().map(|outcome| (outcome, 0)).collect()));
-        Run { rng: Rng(seed), cases: 0, seed, met: met.into() }
+        let none = |(call, each, besides)| (call, all_outcomes(each, besides).into_iter().map(|outcome| (outcome, 0)).collect());
+        Run { rng: Rng(seed), cases: 0, seed, met: CALLS.map(none).into() }
     }
 
-    /// One compared call on a record or a header of this date, whose outcome is its number.
-    pub fn compare<A: Answer>(&mut self, call: &str, date: (u64, u64), actual: A, expected: A, parts: &[Part]) {
-        self.compare_as(call, &dated(date, expected.number()), actual, Said::Is(expected), parts);
+    /// One compared call whose answer FORMAT says.
+    pub fn compare<A: Answer>(&mut self, call: &str, outcome: &str, actual: A, expected: A, parts: &[Part]) {
+        self.compare_as(call, outcome, actual, Said::Is(expected), parts);
     }
 
     /// One compared call: the library's answer, every member of it, and each part of lent memory. A difference ends the run.

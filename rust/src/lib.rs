@@ -1,6 +1,9 @@
 //! The verified library of radio science records (ODR), called from Rust: a safe wrapper of each function of c/odr.h, with the
 //! same names less `odr_`. docs/FORMAT.md defines the record, the refusals and the index of seconds.
 //!
+//! Records are of one of two editions of the format, [`EDITION_1985`] or [`EDITION_1992`]. The caller names it; any other number
+//! is 25, before every other answer.
+//!
 //! Every call takes any bytes and ends. An answer has a refusal number first, which is 0 for none ([`mod@refusal`]); beside a
 //! refusal every other member is 0, and a refused call writes nothing to what it was lent.
 //!
@@ -8,12 +11,12 @@
 //! let reel = std::fs::read("data/sample.odr").unwrap();
 //! let (mut place, mut header) = (0, [0; odr::HEADER_VALUES]);
 //! loop {
-//!     let step = odr::step(&reel, place);
+//!     let step = odr::step(odr::EDITION_1985, &reel, place);
 //!     if step.answer != odr::refusal::NONE {
 //!         break;
 //!     }
 //!     let record = &reel[step.start..step.end];
-//!     assert_eq!(odr::read_header(record, &mut header), odr::refusal::NONE);
+//!     assert_eq!(odr::read_header(odr::EDITION_1985, record, &mut header), odr::refusal::NONE);
 //!     println!("record {} at {} ms", header[odr::field::RECORD_NUMBER], header[odr::field::TIME_TAG_MS]);
 //!     place = step.end;
 //! }
@@ -22,7 +25,11 @@
 //! The compiler does not check that the declarations here are those of c/odr.h and of the library: tests/names.rs compares the
 //! names and numbers, and tests/differential.sh runs every call.
 
-/// Bytes of the longest accepted record.
+/// The edition of 1985, module RSC-11-10: a header of 80 bytes, samples, monitor words.
+pub const EDITION_1985: u64 = 1985;
+/// The edition of 1992, module RSC-11-11: a header of 166 bytes, samples, nothing after them.
+pub const EDITION_1992: u64 = 1992;
+/// Bytes of the longest accepted record, one of 1985; the longest of 1992 has 4,166.
 pub const LONGEST_RECORD: usize = 4_390;
 /// Bytes of the longest monitor segment.
 pub const LONGEST_SEGMENT: usize = 90;
@@ -34,24 +41,24 @@ pub const LONGEST_INPUT: usize = 65_536;
 pub const LONGEST_LISTING: usize = 4_335;
 /// What [`step`] answers at the end of a reel: no refusal has this number.
 pub const FINISHED: u8 = 255;
-/// The values of a header.
-pub const HEADER_VALUES: usize = 46;
+/// The values of a header, in either edition.
+pub const HEADER_VALUES: usize = 48;
 
 /// The refusal numbers of docs/FORMAT.md, "Refusal numbers".
 pub mod refusal {
     /// No refusal.
     pub const NONE: u8 = 0;
-    /// Fewer than 80 bytes; on a reel also a word 3 below 40.
+    /// Fewer bytes than the edition's header, 80 or 166; on a reel also word 3 below 40 or 83.
     pub const TOO_SHORT: u8 = 1;
     /// The bytes are not twice word 3; on a reel: fewer are left than that.
     pub const WRONG_LENGTH: u8 = 2;
-    /// Conversion bit 1.
+    /// Conversion bit 1 in 1985, 0 in 1992.
     pub const NOT_8_BITS: u8 = 3;
     /// Compression is not 0001.
     pub const COMPRESSED: u8 = 4;
-    /// None of the seven sample rates.
+    /// None of the edition's sample rates, seven or nineteen.
     pub const NO_SUCH_RATE: u8 = 5;
-    /// The record's length is neither of its rate's two.
+    /// The record's length is none of its rate's: two in 1985, one in 1992.
     pub const NOT_THE_RATES_LENGTH: u8 = 6;
     /// Tape or record number 0.
     pub const NUMBER_ZERO: u8 = 7;
@@ -65,11 +72,11 @@ pub mod refusal {
     pub const WRONG_SYNC: u8 = 11;
     /// A channel's buffer is too short for the record's samples, or there is no such sample.
     pub const NO_SUCH_SAMPLE: u8 = 12;
-    /// Of an index.
+    /// Of an index, or of the edition, rate, tape number or date that its opening holds.
     pub const WRONG_LIMITS: u8 = 13;
     /// Of an index.
     pub const TOO_FEW_CELLS: u8 = 14;
-    /// The record is of another reel than the index.
+    /// The record is of another edition or reel than the index.
     pub const OTHER_REEL: u8 = 15;
     /// The record number is not one of 1 to the index's highest.
     pub const NUMBER_OUTSIDE: u8 = 16;
@@ -83,21 +90,26 @@ pub mod refusal {
     pub const NO_SUCH_SEGMENT: u8 = 20;
     /// The buffer is too short for the text.
     pub const TEXT_TOO_LONG: u8 = 21;
-    /// A value to be written has more bits than its field.
+    /// A value to be written does not fit into the bits of its field.
     pub const VALUE_TOO_WIDE: u8 = 22;
     /// In neither record.
     pub const SEGMENT_NOT_NEW: u8 = 23;
     /// Only as a line of a listing: the input is longer than [`super::LONGEST_INPUT`].
     pub const INPUT_TOO_LONG: u8 = 24;
+    /// The edition named is neither 1985 nor 1992.
+    pub const NO_SUCH_EDITION: u8 = 25;
+    /// Records of 1992 have no monitor segments.
+    pub const NO_SEGMENTS: u8 = 26;
 }
 
 /// The fields of a header: the place of each among its values. docs/FORMAT.md, "The record", has each field's bits and unit.
+/// Places 0 to 39, 41 and 42 have the same field in both editions; a list of values is one of the edition that its call names.
 pub mod field {
     /// 1: the time is the station clock's.
     pub const CLOCK_ORIGIN: usize = 0;
     pub const SESSION_START: usize = 1;
     pub const COPY_ERROR: usize = 2;
-    /// 0: samples of 8 bits.
+    /// Samples of 8 bits: 0 in 1985, 1 in 1992.
     pub const CONVERSION: usize = 3;
     /// 1: none.
     pub const COMPRESSION: usize = 4;
@@ -138,7 +150,7 @@ pub mod field {
     pub const FREQUENCY_RATE_POWER: usize = 31;
     /// 1 is plus.
     pub const FREQUENCY_RATE_SIGN: usize = 32;
-    /// Counts of 1/256 cycle.
+    /// Counts of 1/256 cycle in 1985, of 1/1,048,576 in 1992.
     pub const PHASE_1: usize = 33;
     pub const PHASE_2: usize = 34;
     pub const SELECTOR_1: usize = 35;
@@ -146,13 +158,35 @@ pub mod field {
     pub const SELECTOR_3: usize = 37;
     pub const SELECTOR_4: usize = 38;
     pub const COUNTER_TAG_MS: usize = 39;
-    pub const FILTER: usize = 40;
     /// Samples a second in each channel.
     pub const SAMPLE_RATE_HZ: usize = 41;
     pub const SYNC_WORD: usize = 42;
+
+    // 1985 alone. Places 46 and 47 have no field: they are read as 0, and writing any other value there is 22.
+
+    /// 1985.
+    pub const FILTER: usize = 40;
+    /// 1985.
     pub const WORD_39: usize = 43;
+    /// 1985.
     pub const REGISTER_1: usize = 44;
+    /// 1985.
     pub const REGISTER_2: usize = 45;
+
+    // 1992 alone.
+
+    /// 1992, as the operator selected it: 1 prime, 2 cross, 3 Faraday rotation.
+    pub const RF_CONFIGURATION: usize = 40;
+    /// 1992, the same codes, as the switch reported it.
+    pub const RF_CONFIGURATION_REPORTED: usize = 43;
+    /// 1992, of the predict set's times, with the seconds.
+    pub const TIME_OFFSET_DAYS: usize = 44;
+    /// 1992; 1 is minus, for the days and the seconds.
+    pub const TIME_OFFSET_SIGN: usize = 45;
+    /// 1992.
+    pub const TIME_OFFSET_SECONDS: usize = 46;
+    /// 1992, in units of 1/1,048,576 Hz. The value is signed: `values[FREQUENCY_OFFSET] as i64`.
+    pub const FREQUENCY_OFFSET: usize = 47;
 }
 
 /// The structs of c/odr.h, which cross by value.
@@ -181,7 +215,7 @@ structs! {
     StepAnswer { answer: u8, start: usize, end: usize }
     /// An index's limits and the values of its reel: what [`open`] gave, for every later call.
     Opening {
-        first_second: u64, second_count: u64, highest_number: u64,
+        first_second: u64, second_count: u64, highest_number: u64, edition: u64,
         sample_rate_hz: u64, tape_number: u64, year: u64, day: u64, spacecraft: u64, spc: u64,
     }
     OpenAnswer { refusal: u8, opening: Opening }
@@ -211,32 +245,32 @@ impl Default for SegmentAnswer {
 }
 
 extern "C" {
-    fn odr_refusal(record: *const u8, record_len: usize) -> u8;
-    fn odr_read_header(record: *const u8, record_len: usize, header: *mut [u64; HEADER_VALUES]) -> u8;
-    fn odr_write_header(record: *mut u8, record_len: usize, header: *const [u64; HEADER_VALUES]) -> u8;
-    fn odr_frequency_rate(record: *const u8, record_len: usize) -> FrequencyRateAnswer;
-    fn odr_sample_rate(hz: u64) -> SampleRateAnswer;
+    fn odr_refusal(edition: u64, record: *const u8, record_len: usize) -> u8;
+    fn odr_read_header(edition: u64, record: *const u8, record_len: usize, header: *mut [u64; HEADER_VALUES]) -> u8;
+    fn odr_write_header(edition: u64, record: *mut u8, record_len: usize, header: *const [u64; HEADER_VALUES]) -> u8;
+    fn odr_frequency_rate(edition: u64, record: *const u8, record_len: usize) -> FrequencyRateAnswer;
+    fn odr_sample_rate(edition: u64, hz: u64) -> SampleRateAnswer;
     fn odr_read_samples(
-        record: *const u8, record_len: usize, one: *mut i8, one_len: usize, two: *mut i8, two_len: usize,
+        edition: u64, record: *const u8, record_len: usize, one: *mut i8, one_len: usize, two: *mut i8, two_len: usize,
         three: *mut i8, three_len: usize, four: *mut i8, four_len: usize,
     ) -> u8;
     fn odr_write_samples(
-        record: *mut u8, record_len: usize, one: *const i8, one_len: usize, two: *const i8, two_len: usize,
+        edition: u64, record: *mut u8, record_len: usize, one: *const i8, one_len: usize, two: *const i8, two_len: usize,
         three: *const i8, three_len: usize, four: *const i8, four_len: usize,
     ) -> u8;
-    fn odr_sample_time(record: *const u8, record_len: usize, k: u64) -> TimeAnswer;
-    fn odr_phases(record: *const u8, record_len: usize) -> PhasesAnswer;
-    fn odr_totals(record: *const u8, record_len: usize) -> TotalsAnswer;
+    fn odr_sample_time(edition: u64, record: *const u8, record_len: usize, k: u64) -> TimeAnswer;
+    fn odr_phases(edition: u64, record: *const u8, record_len: usize) -> PhasesAnswer;
+    fn odr_totals(edition: u64, record: *const u8, record_len: usize) -> TotalsAnswer;
     fn odr_segment(
-        this_record: *const u8, this_len: usize, earlier: *const u8, earlier_len: usize, number: u64,
+        edition: u64, this_record: *const u8, this_len: usize, earlier: *const u8, earlier_len: usize, number: u64,
     ) -> SegmentAnswer;
-    fn odr_step(reel: *const u8, reel_len: usize, place: usize) -> StepAnswer;
+    fn odr_step(edition: u64, reel: *const u8, reel_len: usize, place: usize) -> StepAnswer;
     fn odr_open(
-        pattern: *const u8, pattern_len: usize, first_second: u64, second_count: u64, highest_number: u64,
+        edition: u64, pattern: *const u8, pattern_len: usize, first_second: u64, second_count: u64, highest_number: u64,
         rows: *mut u32, rows_len: usize, seconds: *mut u32, seconds_len: usize,
     ) -> OpenAnswer;
     fn odr_insert(
-        opening: Opening, record: *const u8, record_len: usize,
+        opening: Opening, edition: u64, record: *const u8, record_len: usize,
         rows: *mut u32, rows_len: usize, seconds: *mut u32, seconds_len: usize,
     ) -> u8;
     fn odr_remove(
@@ -257,96 +291,101 @@ extern "C" {
 
 // Each wrapper passes pointers and lengths of slices that live through the call; the mutable ones overlap nothing.
 
-/// 1 to 11, or 0 where the bytes are an accepted record.
-pub fn refusal(record: &[u8]) -> u8 {
-    unsafe { odr_refusal(record.as_ptr(), record.len()) }
+/// 25, 1 to 11, or 0 where the bytes are an accepted record of the edition.
+pub fn refusal(edition: u64, record: &[u8]) -> u8 {
+    unsafe { odr_refusal(edition, record.as_ptr(), record.len()) }
 }
 
-/// The header of a record, each value at its place ([`field`]). 1 to 11, and then the header lent stays as it was.
-pub fn read_header(record: &[u8], header: &mut [u64; HEADER_VALUES]) -> u8 {
-    unsafe { odr_read_header(record.as_ptr(), record.len(), header) }
+/// The header of a record, each value at its place ([`field`]). 25, 1 to 11, and then the header lent stays as it was.
+pub fn read_header(edition: u64, record: &[u8], header: &mut [u64; HEADER_VALUES]) -> u8 {
+    unsafe { odr_read_header(edition, record.as_ptr(), record.len(), header) }
 }
 
-/// The values go into the header of the record, whose other bits stay; of what the record held before only its length is judged.
-/// 1 to 11 of the values, 22.
-pub fn write_header(record: &mut [u8], header: &[u64; HEADER_VALUES]) -> u8 {
-    unsafe { odr_write_header(record.as_mut_ptr(), record.len(), header) }
+/// The values go into the header of the record, whose other bits stay, words 42 to 79, 82 and 83 of 1992 among them; of what the
+/// record held before only its length is judged. 25, 1 to 11 of the values, 22.
+pub fn write_header(edition: u64, record: &mut [u8], header: &[u64; HEADER_VALUES]) -> u8 {
+    unsafe { odr_write_header(edition, record.as_mut_ptr(), record.len(), header) }
 }
 
-/// The frequency rate. 1 to 11.
-pub fn frequency_rate(record: &[u8]) -> FrequencyRateAnswer {
-    unsafe { odr_frequency_rate(record.as_ptr(), record.len()) }
+/// The frequency rate, in the same units in both editions. 25, 1 to 11.
+pub fn frequency_rate(edition: u64, record: &[u8]) -> FrequencyRateAnswer {
+    unsafe { odr_frequency_rate(edition, record.as_ptr(), record.len()) }
 }
 
-/// What follows from a sample rate in samples a second. 5.
-pub fn sample_rate(hz: u64) -> SampleRateAnswer {
-    unsafe { odr_sample_rate(hz) }
+/// What follows from a sample rate in samples a second, one of the edition's. 25, 5.
+pub fn sample_rate(edition: u64, hz: u64) -> SampleRateAnswer {
+    unsafe { odr_sample_rate(edition, hz) }
 }
 
-/// The samples of channels 1 to 4, to the start of each buffer. 1 to 11, 12 where a buffer holds fewer than the record's samples.
-pub fn read_samples(record: &[u8], [one, two, three, four]: [&mut [i8]; 4]) -> u8 {
+/// The samples of channels 1 to 4, from byte 80 or 166 of the record on, to the start of each buffer. 25, 1 to 11, 12 where a
+/// buffer holds fewer than the record's samples.
+pub fn read_samples(edition: u64, record: &[u8], [one, two, three, four]: [&mut [i8]; 4]) -> u8 {
     unsafe {
         odr_read_samples(
-            record.as_ptr(), record.len(), one.as_mut_ptr(), one.len(), two.as_mut_ptr(), two.len(),
+            edition, record.as_ptr(), record.len(), one.as_mut_ptr(), one.len(), two.as_mut_ptr(), two.len(),
             three.as_mut_ptr(), three.len(), four.as_mut_ptr(), four.len(),
         )
     }
 }
 
-/// Samples of channels 1 to 4 into the record, whose other bytes stay. 1 to 11, 12 where a buffer has fewer than the record.
-pub fn write_samples(record: &mut [u8], [one, two, three, four]: [&[i8]; 4]) -> u8 {
+/// Samples of channels 1 to 4 into the record, from byte 80 or 166 on; its other bytes stay. 25, 1 to 11, 12 where a buffer has
+/// fewer than the record.
+pub fn write_samples(edition: u64, record: &mut [u8], [one, two, three, four]: [&[i8]; 4]) -> u8 {
     unsafe {
         odr_write_samples(
-            record.as_mut_ptr(), record.len(), one.as_ptr(), one.len(), two.as_ptr(), two.len(),
+            edition, record.as_mut_ptr(), record.len(), one.as_ptr(), one.len(), two.as_ptr(), two.len(),
             three.as_ptr(), three.len(), four.as_ptr(), four.len(),
         )
     }
 }
 
-/// The time of sample k, counted from 0. 1 to 11, 12 where the record has no sample k.
-pub fn sample_time(record: &[u8], k: u64) -> TimeAnswer {
-    unsafe { odr_sample_time(record.as_ptr(), record.len(), k) }
+/// The time of sample k, counted from 0, rounded down. 25, 1 to 11, 12 where the record has no sample k.
+pub fn sample_time(edition: u64, record: &[u8], k: u64) -> TimeAnswer {
+    unsafe { odr_sample_time(edition, record.as_ptr(), record.len(), k) }
 }
 
-/// The two phases in cycles, exactly. 1 to 11.
-pub fn phases(record: &[u8]) -> PhasesAnswer {
-    unsafe { odr_phases(record.as_ptr(), record.len()) }
+/// The two phases in cycles, exactly: the counts over 256 in 1985, over 1,048,576 in 1992. 25, 1 to 11.
+pub fn phases(edition: u64, record: &[u8]) -> PhasesAnswer {
+    unsafe { odr_phases(edition, record.as_ptr(), record.len()) }
 }
 
-/// The totals of a record's samples. 1 to 11.
-pub fn totals(record: &[u8]) -> TotalsAnswer {
-    unsafe { odr_totals(record.as_ptr(), record.len()) }
+/// The totals of a record's samples. 25, 1 to 11.
+pub fn totals(edition: u64, record: &[u8]) -> TotalsAnswer {
+    unsafe { odr_totals(edition, record.as_ptr(), record.len()) }
 }
 
-/// A monitor segment, from this record if it is new there, else from the earlier one. 1 to 11 of this record, then of the earlier
-/// one, 20, 23.
-pub fn segment(this: &[u8], earlier: &[u8], number: u64) -> SegmentAnswer {
-    unsafe { odr_segment(this.as_ptr(), this.len(), earlier.as_ptr(), earlier.len(), number) }
+/// A monitor segment, from this record if it is new there, else from the earlier one; the edition is that of both. 25, 1 to 11 of
+/// this record, then of the earlier one; then 26 in 1992, which has no segments; 20, 23.
+pub fn segment(edition: u64, this: &[u8], earlier: &[u8], number: u64) -> SegmentAnswer {
+    unsafe { odr_segment(edition, this.as_ptr(), this.len(), earlier.as_ptr(), earlier.len(), number) }
 }
 
-/// What stands at a place of a reel: a record, or [`FINISHED`] at its end and past it, or 1 to 11.
-pub fn step(reel: &[u8], place: usize) -> StepAnswer {
-    unsafe { odr_step(reel.as_ptr(), reel.len(), place) }
+/// What stands at a place of a reel: 25 on any reel, finished or empty too; else a record, or [`FINISHED`] at its end and past
+/// it, or 1 to 11.
+pub fn step(edition: u64, reel: &[u8], place: usize) -> StepAnswer {
+    unsafe { odr_step(edition, reel.as_ptr(), reel.len(), place) }
 }
 
-/// Opens an index for the reel of the pattern, a record, which is not inserted. `limits` are the first second of the window, the
-/// count of its seconds, and the highest record number. The cells of the index become 0: [`CELLS`] in `rows` for each record
-/// number, and in `seconds` for each second of the window. 1 to 11 of the pattern, 13, 14.
-pub fn open(pattern: &[u8], limits: [u64; 3], rows: &mut [u32], seconds: &mut [u32]) -> OpenAnswer {
+/// Opens an index for the edition and the reel of the pattern, a record, which is not inserted. `limits` are the first second of
+/// the window, the count of its seconds, and the highest record number. The cells of the index become 0: [`CELLS`] in `rows` for
+/// each record number, and in `seconds` for each second of the window. 25, 1 to 11 of the pattern, 13, 14.
+pub fn open(edition: u64, pattern: &[u8], limits: [u64; 3], rows: &mut [u32], seconds: &mut [u32]) -> OpenAnswer {
     let [first, count, highest] = limits;
     unsafe {
         odr_open(
-            pattern.as_ptr(), pattern.len(), first, count, highest,
+            edition, pattern.as_ptr(), pattern.len(), first, count, highest,
             rows.as_mut_ptr(), rows.len(), seconds.as_mut_ptr(), seconds.len(),
         )
     }
 }
 
-/// Inserts a record under its number, in place of any there. 1 to 11, 13 to 18.
-pub fn insert(opening: Opening, record: &[u8], rows: &mut [u32], seconds: &mut [u32]) -> u8 {
+/// Inserts a record of the edition named under its number, in place of any there. 25, 1 to 11, 13, 14, 15 also where the edition
+/// is not that of the index, 16 to 18.
+pub fn insert(opening: Opening, edition: u64, record: &[u8], rows: &mut [u32], seconds: &mut [u32]) -> u8 {
     unsafe {
         odr_insert(
-            opening, record.as_ptr(), record.len(), rows.as_mut_ptr(), rows.len(), seconds.as_mut_ptr(), seconds.len(),
+            opening, edition, record.as_ptr(), record.len(),
+            rows.as_mut_ptr(), rows.len(), seconds.as_mut_ptr(), seconds.len(),
         )
     }
 }
@@ -372,12 +411,12 @@ pub fn is_consistent(opening: Opening, rows: &[u32], seconds: &[u32]) -> Consist
     unsafe { odr_is_consistent(opening, rows.as_ptr(), rows.len(), seconds.as_ptr(), seconds.len()) }
 }
 
-/// The listing's line of a record. 1 to 11, 21.
+/// The listing's line of a record of 1985. 1 to 11, 21.
 pub fn record_line(record: &[u8], text: &mut [u8]) -> TextAnswer {
     unsafe { odr_record_line(record.as_ptr(), record.len(), text.as_mut_ptr(), text.len()) }
 }
 
-/// The whole listing of a reel; 24 and any other refusal of the reel is a line of it. 21.
+/// The whole listing of a reel of 1985; 24 and any other refusal of the reel is a line of it. 21.
 pub fn list(input: &[u8], text: &mut [u8]) -> TextAnswer {
     unsafe { odr_list(input.as_ptr(), input.len(), text.as_mut_ptr(), text.len()) }
 }

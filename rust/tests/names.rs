@@ -7,6 +7,9 @@ const HEADER: &str = include_str!("../../c/odr.h");
 const PACKAGE: &str = include_str!("../src/lib.rs");
 const FORMAT: &str = include_str!("../../docs/FORMAT.md");
 
+/// The fields of both editions by name: 42 of both, four of 1985 alone and six of 1992.
+const FIELDS: usize = 42 + 4 + 6;
+
 /// Each `NAME = 1` of a text, behind `before`; a type may follow the name.
 fn numbers(text: &str, before: &str) -> BTreeMap<String, u64> {
     let number = |line: &str| {
@@ -29,7 +32,7 @@ fn functions(text: &str) -> BTreeSet<String> {
 fn numbers_are_the_same() {
     let c = numbers(HEADER, "ODR_");
     assert_eq!(c, numbers(PACKAGE, "pub const "));
-    assert_eq!(c.len(), 7 + 25 + 46);
+    assert_eq!(c.len(), 9 + 27 + FIELDS);
 }
 
 #[test]
@@ -39,7 +42,7 @@ fn functions_are_the_same() {
     assert_eq!(c.len(), 20);
 }
 
-/// A row of the table of fields: the place first, and the name fifth.
+/// A row of a table of fields: the place first, and the name fifth.
 fn place(line: &str) -> Option<(String, u64)> {
     let columns: Vec<&str> = line.split('|').map(str::trim).collect();
     let name = columns.get(5)?.strip_prefix('`')?.strip_suffix('`')?.to_uppercase();
@@ -51,5 +54,7 @@ fn places_are_those_of_the_format() {
     let places: BTreeMap<String, u64> = FORMAT.lines().filter_map(place).collect();
     let fields = PACKAGE.split_once("pub mod field {").map_or("", |(_, rest)| rest);
     assert_eq!(places, numbers(fields, "pub const "));
-    assert_eq!(places.len(), odr::HEADER_VALUES);
+    assert_eq!(places.len(), FIELDS);
+    let all: BTreeSet<u64> = places.into_values().collect();
+    assert!(all.into_iter().eq(0..odr::HEADER_VALUES as u64));
 }

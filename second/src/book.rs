@@ -1,15 +1,18 @@
 //! FORMAT, "The index of seconds" and "The ledger": records held by number, every answer worked out from nothing.
 
-use crate::record::{is_date, rate_of, read_header, Header};
+use crate::edition::{edition_of, Rate};
+use crate::header::Header;
+use crate::record::{is_date, read_header};
 use crate::samples::{channels, means, total, Means, Total};
 use std::collections::BTreeMap;
 
-/// What opening returns: the limits given and the pattern's values that 15 compares.
+/// What opening returns: the limits given, the edition named and the pattern's values, which 15 compares.
 #[derive(Clone, Debug, PartialEq, Eq)]
 pub struct Opening {
     pub first_second: u64,
     pub count: u64,
     pub highest: u64,
+    pub edition: u64,
     pub rate: u64,
     pub year: u64,
     pub day: u64,
@@ -37,7 +40,7 @@ fn judge(o: &Opening, row_cells_len: usize, second_cells_len: usize) -> Result<(
     let limits = (1..=65_535).contains(&o.highest)
         && (1..=86_400).contains(&o.count)
         && o.first_second <= 86_400 - o.count;
-    let pattern = rate_of(o.rate).is_some() && o.tape != 0 && is_date(o.year, o.day);
+    let pattern = o.rate().is_ok() && o.tape != 0 && is_date(o.year, o.day);
     if !limits || !pattern {
         return Err(13);
     }
@@ -48,6 +51,7 @@ fn judge(o: &Opening, row_cells_len: usize, second_cells_len: usize) -> Result<(
 }
 
 pub fn open(
+    edition: u64,
     pattern: &[u8],
     first_second: u64,
     count: u64,
@@ -55,11 +59,12 @@ pub fn open(
     row_cells_len: usize,
     second_cells_len: usize,
 ) -> Result<Opening, u8> {
-    let h = read_header(pattern)?;
+    let h = read_header(edition, pattern)?;
     let opening = Opening {
         first_second,
         count,
         highest,
+        edition,
         rate: h.sample_rate_hz,
         year: h.year,
         day: h.day,
@@ -72,8 +77,14 @@ pub fn open(
 }
 
 impl Opening {
+    /// The held rate's row in the held edition's table.
+    fn rate(&self) -> Result<Rate, u8> {
+        edition_of(self.edition)?.rate(self.rate)
+    }
+
     fn same_reel(&self, h: &Header) -> bool {
-        (self.rate, self.year, self.day) == (h.sample_rate_hz, h.year, h.day)
+        self.edition == h.edition().number
+            && (self.rate, self.year, self.day) == (h.sample_rate_hz, h.year, h.day)
             && (self.tape, self.spacecraft, self.spc) == (h.tape_number, h.spacecraft, h.spc)
     }
 
@@ -87,22 +98,30 @@ impl Opening {
     }
 
     fn full(&self) -> u64 {
-        rate_of(self.rate).map_or(0, |rate| rate.records_a_second)
+        self.rate().map_or(0, |rate| rate.records_a_second)
     }
 }
 
 impl Ledger {
-    /// The held records of a second: number, header, bytes.
-    fn of_second(&self, second: u64) -> Vec<(u16, Header, &[u8])> {
+    /// The held records of a second, which are of the opening's edition: number, header, bytes.
+    fn of_second(&self, o: &Opening, second: u64) -> Vec<(u16, Header, &[u8])> {
         self.records
             .iter()
-            .filter_map(|(&number, bytes)| Some((number, read_header(bytes).ok()?, bytes.as_slice())))
+            .filter_map(|(&number, bytes)| Some((number, read_header(o.edition, bytes).ok()?, bytes.as_slice())))
             .filter(|(_, h, _)| h.time_tag_ms / 1000 == second)
             .collect()
     }
 
-    pub fn put(&mut self, o: &Opening, record: &[u8], row_cells_len: usize, second_cells_len: usize) -> Result<(), u8> {
-        let h = read_header(record)?;
+    /// Puts a record of the edition named.
+    pub fn put(
+        &mut self,
+        o: &Opening,
+        edition: u64,
+        record: &[u8],
+        row_cells_len: usize,
+        second_cells_len: usize,
+    ) -> Result<(), u8> {
+        let h = read_header(edition, record)?;
         judge(o, row_cells_len, second_cells_len)?;
         if !o.same_reel(&h) {
             return Err(15);
@@ -110,7 +129,7 @@ impl Ledger {
         let number = o.number(h.record_number)?;
         let second = h.time_tag_ms / 1000;
         o.window(second)?;
-        let others = self.of_second(second).iter().filter(|held| held.0 != number).count();
+        let others = self.of_second(o, second).iter().filter(|held| held.0 != number).count();
         if others as u64 >= o.full() {
             return Err(18);
         }
@@ -125,10 +144,10 @@ impl Ledger {
     }
 
     /// Every sample of each channel in a second's held records.
-    fn samples(&self, second: u64) -> Result<[Vec<i8>; 4], u8> {
+    fn samples(&self, o: &Opening, second: u64) -> Result<[Vec<i8>; 4], u8> {
         let mut samples: [Vec<i8>; 4] = Default::default();
-        for (_, _, bytes) in self.of_second(second) {
-            for (all, more) in samples.iter_mut().zip(channels(bytes)?) {
+        for (_, _, bytes) in self.of_second(o, second) {
+            for (all, more) in samples.iter_mut().zip(channels(o.edition, bytes)?) {
                 all.extend(more);
             }
         }
@@ -138,12 +157,12 @@ impl Ledger {
     pub fn ask(&self, o: &Opening, second: u64, row_cells_len: usize, second_cells_len: usize) -> Result<SecondTotals, u8> {
         judge(o, row_cells_len, second_cells_len)?;
         o.window(second)?;
-        let held = self.of_second(second);
+        let held = self.of_second(o, second);
         let records = held.len() as u64;
         let origins = held.iter().filter(|(_, h, _)| h.clock_origin == 1).count() as u64;
         let errors = held.iter().filter(|(_, h, _)| h.copy_error == 1).count() as u64;
         let kept = records == o.full() && origins >= 1 && errors == 0;
-        let channels = self.samples(second)?.map(|samples| total(&samples));
+        let channels = self.samples(o, second)?.map(|samples| total(&samples));
         Ok(SecondTotals { records, origins, errors, channels, kept })
     }
 
@@ -151,7 +170,7 @@ impl Ledger {
     pub fn means(&self, o: &Opening, second: u64, row_cells_len: usize, second_cells_len: usize) -> Result<[Means; 4], u8> {
         judge(o, row_cells_len, second_cells_len)?;
         o.window(second)?;
-        Ok(self.samples(second)?.map(|samples| means(total(&samples), samples.len() as u64)))
+        Ok(self.samples(o, second)?.map(|samples| means(total(&samples), samples.len() as u64)))
     }
 
     /// The ledger's book test: yes, but for 13 and 14.

@@ -1,4 +1,4 @@
-//! FORMAT, "The listing": the whole text for a reel, and refusal 21 for a text put into a lent buffer.
+//! FORMAT, "The listing": the whole text for a reel of 1985, and refusal 21 for a text put into a lent buffer.
 
 use crate::record::{frequency_rate, read_header};
 use crate::reel::{step, Step};
@@ -6,12 +6,14 @@ use crate::samples::sample_time;
 
 pub const HEADER_LINE: &str = "record,first_us,origin,poca_hz,rate_hz_s\n";
 pub const LONGEST_INPUT: usize = 65_536;
+/// The edition of what is listed.
+pub const LISTED: u64 = 1985;
 
 /// One record's line.
 pub fn line(record: &[u8]) -> Result<String, u8> {
-    let h = read_header(record)?;
-    let columns = [h.record_number, sample_time(record, 0)?, h.clock_origin, h.readback_uhz];
-    Ok(columns_line(columns, frequency_rate(record)?))
+    let h = read_header(LISTED, record)?;
+    let columns = [h.record_number, sample_time(LISTED, record, 0)?, h.clock_origin, h.readback_uhz];
+    Ok(columns_line(columns, frequency_rate(LISTED, record)?))
 }
 
 /// Record number, first sample's microseconds, clock origin and readback in microhertz; the rate in units of 0.00001 Hz/s.
@@ -61,7 +63,7 @@ fn lines(input: &[u8], text: &mut String) -> Result<(), u8> {
     }
     let mut place = 0;
     loop {
-        match step(input, place) {
+        match step(LISTED, input, place) {
             Step::Finished => return Ok(()),
             Step::Refused(number) => return Err(number),
             Step::Record { bytes, next } => {

@@ -1,46 +1,50 @@
 //! FORMAT: "Samples", "Times and phases"; of "The index of seconds" the totals and means of samples.
 
-use crate::record::{read_header, record_rate};
+use crate::record::{read_header, record_rate, sample_bytes};
 
-pub fn read_samples(bytes: &[u8], channels: [&mut [i8]; 4]) -> Result<(), u8> {
-    let count = record_rate(bytes)?.samples as usize;
+pub fn read_samples(edition: u64, bytes: &[u8], channels: [&mut [i8]; 4]) -> Result<(), u8> {
+    let samples = &bytes[sample_bytes(edition, bytes)?];
+    let count = samples.len() / 4;
     if channels.iter().any(|channel| channel.len() < count) {
         return Err(12);
     }
     for (c, channel) in channels.into_iter().enumerate() {
         for k in 0..count {
-            channel[k] = bytes[80 + 4 * k + c] as i8;
+            channel[k] = samples[4 * k + c] as i8;
         }
     }
     Ok(())
 }
 
-pub fn write_samples(bytes: &mut [u8], channels: [&[i8]; 4]) -> Result<(), u8> {
-    let count = record_rate(bytes)?.samples as usize;
+pub fn write_samples(edition: u64, bytes: &mut [u8], channels: [&[i8]; 4]) -> Result<(), u8> {
+    let stretch = sample_bytes(edition, bytes)?;
+    let samples = &mut bytes[stretch];
+    let count = samples.len() / 4;
     if channels.iter().any(|channel| channel.len() < count) {
         return Err(12);
     }
     for (c, channel) in channels.into_iter().enumerate() {
         for k in 0..count {
-            bytes[80 + 4 * k + c] = channel[k] as u8;
+            samples[4 * k + c] = channel[k] as u8;
         }
     }
     Ok(())
 }
 
-/// In microseconds of the day.
-pub fn sample_time(bytes: &[u8], k: u64) -> Result<u64, u8> {
-    let rate = record_rate(bytes)?;
+/// In microseconds of the day, rounded down once.
+pub fn sample_time(edition: u64, bytes: &[u8], k: u64) -> Result<u64, u8> {
+    let rate = record_rate(edition, bytes)?;
     if k >= rate.samples {
         return Err(12);
     }
-    Ok(1000 * read_header(bytes)?.time_tag_ms + k * (1_000_000 / rate.hz))
+    Ok(1000 * read_header(edition, bytes)?.time_tag_ms + k * 1_000_000 / rate.hz)
 }
 
 /// Both phases in cycles.
-pub fn phases(bytes: &[u8]) -> Result<(f64, f64), u8> {
-    let h = read_header(bytes)?;
-    Ok((h.phase_1 as f64 / 256.0, h.phase_2 as f64 / 256.0))
+pub fn phases(edition: u64, bytes: &[u8]) -> Result<(f64, f64), u8> {
+    let h = read_header(edition, bytes)?;
+    let cycle = (1u64 << h.edition().fraction_bits) as f64;
+    Ok((h.phase_1 as f64 / cycle, h.phase_2 as f64 / cycle))
 }
 
 #[derive(Clone, Copy, Debug, Default, PartialEq, Eq)]
@@ -62,15 +66,15 @@ pub fn total(samples: &[i8]) -> Total {
 }
 
 /// The samples of each channel, in order.
-pub fn channels(bytes: &[u8]) -> Result<[Vec<i8>; 4], u8> {
-    let count = record_rate(bytes)?.samples as usize;
+pub fn channels(edition: u64, bytes: &[u8]) -> Result<[Vec<i8>; 4], u8> {
+    let count = record_rate(edition, bytes)?.samples as usize;
     let mut out = [(); 4].map(|_| vec![0; count]);
-    read_samples(bytes, out.each_mut().map(|channel| channel.as_mut_slice()))?;
+    read_samples(edition, bytes, out.each_mut().map(|channel| channel.as_mut_slice()))?;
     Ok(out)
 }
 
-pub fn totals(bytes: &[u8]) -> Result<[Total; 4], u8> {
-    Ok(channels(bytes)?.map(|samples| total(&samples)))
+pub fn totals(edition: u64, bytes: &[u8]) -> Result<[Total; 4], u8> {
+    Ok(channels(edition, bytes)?.map(|samples| total(&samples)))
 }
 
 #[derive(Clone, Copy, Debug, Default, PartialEq)]

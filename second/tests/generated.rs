@@ -1,33 +1,37 @@
 //! FORMAT whole: what the seeded generator makes is what it says, and the answers hang together over it.
 
 use second::book::{open, Ledger, SecondTotals};
+use second::edition::{edition_of, EDITIONS, EDITION_1985};
 use second::gen::*;
 use second::lister::listing;
-use second::record::{accept, read_header, write_header, RATES};
+use second::record::{accept, read_header, write_header};
 use second::reel::{step, Step};
 use second::samples::{channels, write_samples};
 
 #[test]
 fn accepted_records_of_every_rate_and_length() {
     let mut rng = Rng(1);
-    for rate in RATES {
-        for words in [rate.words_op_a, rate.words_op_b] {
+    for edition in EDITIONS {
+        for (rate, &words) in edition.rates.iter().flat_map(|rate| rate.lengths.iter().map(move |words| (*rate, words))) {
             for _ in 0..50 {
-                let r = record_with(&mut rng, rate, words);
-                let header = read_header(&r).unwrap();
+                let e = edition.number;
+                let r = record_with(&mut rng, edition, rate, words);
+                let header = read_header(e, &r).unwrap();
+                assert_eq!(accept(other(edition).number, &r), Err(3));
                 // Writing back what was read alters no byte.
                 let mut same = r.clone();
                 write_header(&mut same, &header).unwrap();
-                let samples = channels(&r).unwrap();
-                write_samples(&mut same, samples.each_ref().map(|c| c.as_slice())).unwrap();
+                let samples = channels(e, &r).unwrap();
+                write_samples(e, &mut same, samples.each_ref().map(|c| c.as_slice())).unwrap();
                 assert_eq!(same, r);
                 // Fields and samples written over another record are read back the same.
-                let mut other = record_with(&mut rng, rate, words);
-                let before = other.clone();
-                write_header(&mut other, &header).unwrap();
-                assert_eq!(other[80..], before[80..]);
-                write_samples(&mut other, samples.each_ref().map(|c| c.as_slice())).unwrap();
-                assert_eq!((read_header(&other), channels(&other)), (Ok(header), Ok(samples)));
+                let mut another = record_with(&mut rng, edition, rate, words);
+                let before = another.clone();
+                write_header(&mut another, &header).unwrap();
+                let end = edition.header_bytes();
+                assert_eq!(another[end..], before[end..]);
+                write_samples(e, &mut another, samples.each_ref().map(|c| c.as_slice())).unwrap();
+                assert_eq!((read_header(e, &another), channels(e, &another)), (Ok(header), Ok(samples)));
             }
         }
     }
@@ -36,11 +40,13 @@ fn accepted_records_of_every_rate_and_length() {
 #[test]
 fn one_breach_gives_its_number() {
     let mut rng = Rng(2);
-    for number in 1..=11 {
-        for _ in 0..300 {
-            let mut r = record(&mut rng);
-            breach(&mut rng, &mut r, number);
-            assert_eq!(accept(&r), Err(number));
+    for edition in EDITIONS {
+        for number in 1..=11 {
+            for _ in 0..300 {
+                let mut r = record(&mut rng, edition);
+                breach(&mut rng, edition, &mut r, number);
+                assert_eq!(accept(edition.number, &r), Err(number));
+            }
         }
     }
 }
@@ -48,48 +54,78 @@ fn one_breach_gives_its_number() {
 #[test]
 fn several_breaches_give_the_first() {
     let mut rng = Rng(3);
-    let mut seen = [0; 12];
-    for _ in 0..3000 {
-        let mut r = record(&mut rng);
-        let first = breaches(&mut rng, &mut r);
-        assert_eq!(accept(&r), Err(first));
-        seen[usize::from(first)] += 1;
+    for edition in EDITIONS {
+        let mut seen = [0; 12];
+        for _ in 0..3000 {
+            let mut r = record(&mut rng, edition);
+            let first = breaches(&mut rng, edition, &mut r);
+            assert_eq!(accept(edition.number, &r), Err(first));
+            seen[usize::from(first)] += 1;
+        }
+        assert!(seen[1..].iter().all(|&count| count > 0), "{seen:?}");
     }
-    assert!(seen[1..].iter().all(|&count| count > 0), "{seen:?}");
+}
+
+#[test]
+fn foreign_records_give_3_5_or_6() {
+    let mut rng = Rng(8);
+    for edition in EDITIONS {
+        let mut seen = [0; 12];
+        for _ in 0..1000 {
+            let r = foreign(&mut rng, edition);
+            seen[usize::from(accept(edition.number, &r).err().unwrap_or(0))] += 1;
+        }
+        assert!(seen[3] > 0 && seen[5] > 0 && seen[6] > 0 && seen[3] + seen[5] + seen[6] == 1000, "{seen:?}");
+    }
+}
+
+#[test]
+fn unknown_editions() {
+    let mut rng = Rng(9);
+    let made: Vec<u64> = (0..2000).map(|_| unknown_edition(&mut rng)).collect();
+    assert!(made.iter().all(|&edition| edition_of(edition).err() == Some(25)));
+    let known = [1985, 1992];
+    let near = known.iter().flat_map(|&e| [e - 1, e + 1, e % 100, e + (1 << 16), e + (1 << 32), e + (1 << 63)]);
+    for edition in near.chain([0, 1, u64::MAX]) {
+        assert!(made.contains(&edition), "{edition}");
+    }
 }
 
 #[test]
 fn anything_ends_with_an_answer() {
     let mut rng = Rng(4);
-    let mut seen = [0; 12];
-    for i in 0..4000 {
-        let r = match i % 3 {
-            0 => cut(&mut rng),
-            1 => damaged(&mut rng),
-            _ => garbage(&mut rng),
-        };
-        seen[usize::from(accept(&r).err().unwrap_or(0))] += 1;
-        listing(&r);
-        for place in [0, rng.within(0, 5000) as usize, usize::MAX] {
-            step(&r, place);
+    for edition in EDITIONS {
+        let mut seen = [0; 12];
+        for i in 0..4000 {
+            let r = match i % 3 {
+                0 => cut(&mut rng, edition),
+                1 => damaged(&mut rng, edition),
+                _ => garbage(&mut rng),
+            };
+            seen[usize::from(accept(edition.number, &r).err().unwrap_or(0))] += 1;
+            listing(&r);
+            for place in [0, rng.within(0, 5000) as usize, usize::MAX] {
+                step(edition.number, &r, place);
+            }
         }
+        assert!(seen[0] > 0 && seen[1] > 0 && seen[2] > 0, "{seen:?}");
     }
-    assert!(seen[0] > 0 && seen[1] > 0 && seen[2] > 0, "{seen:?}");
 }
 
 #[test]
 fn reels() {
     let mut rng = Rng(5);
-    for i in 0..300 {
+    for i in 0..600 {
+        let edition = EDITIONS[i / 3 % 2];
         let count = rng.within(0, 13) as usize;
         let reel = match i % 3 {
-            0 => reel(&mut rng, count),
-            1 => cut_reel(&mut rng, count),
-            _ => damaged_reel(&mut rng, count),
+            0 => reel(&mut rng, edition, count),
+            1 => cut_reel(&mut rng, edition, count),
+            _ => damaged_reel(&mut rng, edition, count),
         };
         let (mut place, mut joined) = (0, Vec::new());
         let last = loop {
-            match step(&reel, place) {
+            match step(edition.number, &reel, place) {
                 Step::Record { bytes, next } => {
                     joined.extend_from_slice(&reel[bytes]);
                     place = next;
@@ -102,20 +138,27 @@ fn reels() {
         assert!((last == Step::Finished) == (place == reel.len()));
         let text = String::from_utf8(listing(&reel)).unwrap();
         let refused = text.lines().last().unwrap().strip_prefix("refused,").map(|n| n.parse().unwrap());
-        assert_eq!(refused, if let Step::Refused(n) = last { Some(n) } else { None });
+        if edition.number == EDITION_1985.number {
+            assert_eq!(refused, if let Step::Refused(n) = last { Some(n) } else { None });
+        } else {
+            // The lister stays with 1985.
+            let first = step(1985, &reel, 0);
+            assert_eq!(refused, if let Step::Refused(n) = first { Some(n) } else { None });
+            assert!(first == Step::Finished || refused.is_some());
+        }
     }
 }
 
 #[test]
 fn whole_seconds_are_kept() {
     let mut rng = Rng(6);
-    for rate in RATES {
-        let pattern = record_of(&mut rng, rate);
+    for (edition, rate) in EDITIONS.into_iter().flat_map(|edition| edition.rates.iter().map(move |rate| (edition, *rate))) {
+        let pattern = record_of(&mut rng, edition, rate);
         let (rows, cells) = (20 * 200, 20 * 3);
-        let o = open(&pattern, 86_397, 3, 200, rows, cells).unwrap();
+        let o = open(edition.number, &pattern, 86_397, 3, 200, rows, cells).unwrap();
         let mut ledger = Ledger::default();
-        for r in session(&mut rng, &pattern, 86_397, 3) {
-            ledger.put(&o, &r, rows, cells).unwrap();
+        for r in session(&mut rng, edition, &pattern, 86_397, 3) {
+            ledger.put(&o, edition.number, &r, rows, cells).unwrap();
         }
         for second in 86_397..86_400 {
             let t = ledger.ask(&o, second, rows, cells).unwrap();
@@ -128,13 +171,14 @@ fn whole_seconds_are_kept() {
 #[test]
 fn histories() {
     let mut rng = Rng(7);
-    for _ in 0..60 {
-        let rate = rng.pick(&RATES);
-        let pattern = record_of(&mut rng, rate);
+    for i in 0..120 {
+        let edition = EDITIONS[i % 2];
+        let rate = rng.pick(edition.rates);
+        let pattern = record_of(&mut rng, edition, rate);
         let first = rng.within(0, 86_397);
         let (count, highest) = (rng.within(1, 3), rng.within(1, 3 * rate.records_a_second));
         let (rows, cells) = (20 * highest as usize, 20 * count as usize);
-        let o = open(&pattern, first, count, highest, rows, cells).unwrap();
+        let o = open(edition.number, &pattern, first, count, highest, rows, cells).unwrap();
         let mut ledger = Ledger::default();
         let mut where_held = vec![None; highest as usize + 1];
         for _ in 0..300 {
@@ -145,7 +189,7 @@ fn histories() {
             match rng.next() % 4 {
                 0 | 1 => {
                     let (origin, error) = (rng.one_in(3), rng.one_in(9));
-                    let r = flagged(&mut rng, &pattern, number, tag, origin, error);
+                    let r = flagged(&mut rng, edition, &pattern, number, tag, [origin, error]);
                     let others = where_held.iter().enumerate();
                     let others = others.filter(|&(n, &s)| n as u64 != number && s == Some(second)).count();
                     let expected = if number > highest {
@@ -157,7 +201,7 @@ fn histories() {
                     } else {
                         Ok(())
                     };
-                    assert_eq!(ledger.put(&o, &r, rows, cells), expected);
+                    assert_eq!(ledger.put(&o, edition.number, &r, rows, cells), expected);
                     if expected.is_ok() {
                         where_held[number as usize] = Some(second);
                         assert_eq!(ledger.records[&(number as u16)], r);

@@ -1,10 +1,12 @@
-//! FORMAT: "Cases worked by hand", "The listing" and "Refusal numbers": worked values and each number's boundary.
+//! FORMAT: "Cases worked by hand", "The listing" and "Refusal numbers": worked values and each number's boundary, of 1985.
 
 use second::book::{open, Ledger, Opening, SecondTotals};
+use second::edition::{sample_rate, EDITION_1985};
 use second::gen::{digit_places, set_digit, set_tag, set_word, word};
+use second::header::{Header, Own, Own1985};
 use second::lister::{columns_line, line, listing, put_line, put_text, put_text_at, refused_line, HEADER_LINE};
 use second::monitor::{segment, SEGMENTS};
-use second::record::{accept, frequency_rate, read_header, sample_rate, write_header, Header, RATES};
+use second::record::{accept, frequency_rate, read_header, write_header};
 use second::reel::{step, Step};
 use second::samples::{means, phases, read_samples, sample_time, total, totals, write_samples, Means, Total};
 
@@ -22,9 +24,9 @@ fn case() -> Vec<u8> {
 
 /// A plain record of a rate, number and tag: tape 1, day 1 of year 0, no flags, samples 0.
 fn plain(hz: u64, number: u64, tag_ms: u64) -> Vec<u8> {
-    let rate = RATES.into_iter().find(|rate| rate.hz == hz).unwrap();
-    let mut r = vec![0; 2 * rate.words_op_a as usize];
-    for (w, value) in [(1, 0x0101), (2, number), (3, rate.words_op_a), (6, 1), (37, hz)] {
+    let words = EDITION_1985.rate(hz).unwrap().lengths[0];
+    let mut r = vec![0; 2 * words as usize];
+    for (w, value) in [(1, 0x0101), (2, number), (3, words), (6, 1), (37, hz)] {
         set_word(&mut r, w, value);
     }
     set_tag(&mut r, 7, tag_ms);
@@ -38,7 +40,7 @@ fn with(change: impl FnOnce(&mut Vec<u8>)) -> Vec<u8> {
 }
 
 fn answer(change: impl FnOnce(&mut Vec<u8>)) -> u8 {
-    accept(&with(change)).err().unwrap_or(0)
+    accept(1985, &with(change)).err().unwrap_or(0)
 }
 
 // Values worked by hand.
@@ -52,9 +54,9 @@ fn frequency_rates() {
             set_word(r, 26, high);
             set_word(r, 27, low);
         });
-        assert_eq!(frequency_rate(&r), Ok(units));
+        assert_eq!(frequency_rate(1985, &r), Ok(units));
     }
-    let zero = read_header(&with(|r| r[50..54].copy_from_slice(&[0, 0, 0, 1]))).unwrap();
+    let zero = read_header(1985, &with(|r| r[50..54].copy_from_slice(&[0, 0, 0, 1]))).unwrap();
     assert_eq!((zero.rate_digits, zero.rate_power, zero.rate_sign), (0, 0, 1));
 }
 
@@ -65,23 +67,23 @@ fn sample_rates() {
         (1_000, 500, 2, 1000), (200, 100, 2, 5000),
     ];
     for (hz, samples, records, microseconds) in lines {
-        let line = sample_rate(hz).unwrap();
+        let line = sample_rate(1985, hz).unwrap();
         assert_eq!([line.samples, line.records_a_second, line.interval_us], [samples, records, microseconds]);
     }
     for hz in [0, 1, 100, 199, 201, 500, 100_000, 200 + (1 << 16), 200 + (1 << 32), u64::MAX] {
-        assert_eq!(sample_rate(hz), Err(5));
+        assert_eq!(sample_rate(1985, hz), Err(5));
     }
 }
 
 #[test]
 fn frequencies() {
-    assert_eq!(read_header(&case()).unwrap().readback_uhz, 42_000_000);
+    assert_eq!(read_header(1985, &case()).unwrap().readback_uhz, 42_000_000);
     let nines = with(|r| {
         r[27..34].fill(0x99);
         r[39..46].fill(0x99);
     });
-    assert_eq!(read_header(&nines).unwrap().readback_uhz, 99_999_999_999_999);
-    assert_eq!(read_header(&nines).unwrap().calculated_uhz, 99_999_999_999_999);
+    assert_eq!(read_header(1985, &nines).unwrap().readback_uhz, 99_999_999_999_999);
+    assert_eq!(read_header(1985, &nines).unwrap().calculated_uhz, 99_999_999_999_999);
     assert_eq!(answer(|r| r[27] = 0xA0), 10);
 }
 
@@ -89,20 +91,20 @@ fn frequencies() {
 fn sample_bytes() {
     let r = with(|r| r[80..83].copy_from_slice(&[0x80, 0x7F, 0xFF]));
     let mut out = [[9i8; 101]; 4];
-    read_samples(&r, out.each_mut().map(|c| c.as_mut_slice())).unwrap();
+    read_samples(1985, &r, out.each_mut().map(|c| c.as_mut_slice())).unwrap();
     assert_eq!(out.map(|c| c[0]), [-128, 127, -1, 0]);
     assert_eq!(out.map(|c| (c[99], c[100])), [(0, 9); 4]);
-    for rate in RATES {
+    for rate in EDITION_1985.rates {
         for (k, c) in [(0, 1), (7, 3), (rate.samples as usize - 1, 4)] {
             let mut r = plain(rate.hz, 1, 0);
             r[80 + 4 * k + (c - 1)] = 5;
             let mut out = [[0i8; 1000]; 4];
-            read_samples(&r, out.each_mut().map(|c| c.as_mut_slice())).unwrap();
+            read_samples(1985, &r, out.each_mut().map(|c| c.as_mut_slice())).unwrap();
             let mut expected = [[0i8; 1000]; 4];
             expected[c - 1][k] = 5;
             assert_eq!(out, expected);
             let mut back = plain(rate.hz, 1, 0);
-            write_samples(&mut back, out.each_ref().map(|c| c.as_slice())).unwrap();
+            write_samples(1985, &mut back, out.each_ref().map(|c| c.as_slice())).unwrap();
             assert_eq!(back, r);
         }
     }
@@ -111,13 +113,13 @@ fn sample_bytes() {
 #[test]
 fn sample_times() {
     let r = plain(50_000, 1, 1);
-    assert_eq!(sample_time(&r, 0), Ok(1_000));
-    assert_eq!(sample_time(&r, 999), Ok(20_980));
-    assert_eq!(sample_time(&r, 1000), Err(12));
-    assert_eq!(sample_time(&case(), 99), Ok(43_200_000_000 + 99 * 5_000));
-    assert_eq!(sample_time(&case(), 100), Err(12));
-    assert_eq!(sample_time(&case(), u64::MAX), Err(12));
-    assert_eq!(sample_time(&[], u64::MAX), Err(1));
+    assert_eq!(sample_time(1985, &r, 0), Ok(1_000));
+    assert_eq!(sample_time(1985, &r, 999), Ok(20_980));
+    assert_eq!(sample_time(1985, &r, 1000), Err(12));
+    assert_eq!(sample_time(1985, &case(), 99), Ok(43_200_000_000 + 99 * 5_000));
+    assert_eq!(sample_time(1985, &case(), 100), Err(12));
+    assert_eq!(sample_time(1985, &case(), u64::MAX), Err(12));
+    assert_eq!(sample_time(1985, &[], u64::MAX), Err(1));
 }
 
 #[test]
@@ -132,22 +134,22 @@ fn totals_and_means() {
         r[81] = 0x80;
     });
     let five = Total { sum: 500, squares: 2500, least: 5, greatest: 5 };
-    assert_eq!(totals(&r), Ok([five, Total { sum: 367, squares: 18_859, least: -128, greatest: 5 }, five, five]));
+    assert_eq!(totals(1985, &r), Ok([five, Total { sum: 367, squares: 18_859, least: -128, greatest: 5 }, five, five]));
     // The samples end at N. A record that is not accepted has no totals, though its samples are there.
-    for rate in RATES {
+    for rate in EDITION_1985.rates {
         let mut r = plain(rate.hz, 1, 0);
         let end = 2 * rate.n as usize;
         r[80..end].fill(0xFF);
         r[end..].fill(7);
         let ones = Total { sum: -(rate.samples as i64), squares: rate.samples, least: -1, greatest: -1 };
-        assert_eq!(totals(&r), Ok([ones; 4]));
+        assert_eq!(totals(1985, &r), Ok([ones; 4]));
         r[1] = 0;
-        assert_eq!(totals(&r), Err(7));
+        assert_eq!(totals(1985, &r), Err(7));
         r.truncate(end);
-        assert_eq!(totals(&r), Err(2));
+        assert_eq!(totals(1985, &r), Err(2));
     }
-    assert_eq!(totals(&with(|r| set_word(r, 38, 0))), Err(11));
-    assert_eq!(totals(&case()[..79]), Err(1));
+    assert_eq!(totals(1985, &with(|r| set_word(r, 38, 0))), Err(11));
+    assert_eq!(totals(1985, &case()[..79]), Err(1));
 }
 
 #[test]
@@ -156,8 +158,8 @@ fn phase_cycles() {
         r[54..60].fill(0xFF);
         r[60..66].copy_from_slice(&[0, 0, 0, 0, 1, 0x40]);
     });
-    assert_eq!(phases(&r), Ok((((1u64 << 48) - 1) as f64 / 256.0, 1.25)));
-    assert_eq!(phases(&r).unwrap().0 * 256.0, 281_474_976_710_655.0);
+    assert_eq!(phases(1985, &r), Ok((((1u64 << 48) - 1) as f64 / 256.0, 1.25)));
+    assert_eq!(phases(1985, &r).unwrap().0 * 256.0, 281_474_976_710_655.0);
 }
 
 #[test]
@@ -195,7 +197,6 @@ fn header_fields() {
         readback_uhz: 12_345_678_901_234,
         readback_tag_ms: 86_399_999,
         calculated_uhz: 98_765_432_109_876,
-        filter: 2,
         update_tag_ms: 0x062F3031 & 0x7FF_FFFF,
         rate_digits: 54_321,
         rate_power: 5,
@@ -209,12 +210,10 @@ fn header_fields() {
         counter_tag_ms: 0x4445_4647 & 0x7FF_FFFF,
         sample_rate_hz: 200,
         sync_word: 0xA55A,
-        word_39: 0x4C4D,
-        register_1: 0x4E,
-        register_2: 0x4F,
+        own: Own::In1985(Own1985 { filter: 2, word_39: 0x4C4D, register_1: 0x4E, register_2: 0x4F, no_field: [0; 2] }),
     };
     bytes[46..50].copy_from_slice(&[0x26, 0x2F, 0x30, 0x31]);
-    assert_eq!(read_header(&bytes), Ok(expected.clone()));
+    assert_eq!(read_header(1985, &bytes), Ok(expected.clone()));
 
     // Written over ones, all but the unnamed bits are the same again; over zeros too.
     for fill in [0x00, 0xFF] {
@@ -277,13 +276,14 @@ fn lister_numbers() {
 
 #[test]
 fn refusal_1() {
-    assert_eq!(accept(&[0; 79]), Err(1));
-    assert_eq!(accept(&[0; 80]), Err(2));
+    assert_eq!(accept(1985, &[0; 79]), Err(1));
+    assert_eq!(accept(1985, &[0; 80]), Err(2));
     assert_eq!(answer(|r| r.truncate(79)), 1);
     assert_eq!(answer(|r| r.truncate(80)), 2);
     assert_eq!(answer(|r| r.clear()), 1);
-    assert_eq!(write_header(&mut [0; 79], &Header::default()), Err(1));
-    assert_eq!(write_header(&mut [0; 80], &Header::default()), Err(2));
+    let blank = Header::blank(1985).unwrap();
+    assert_eq!(write_header(&mut [0; 79], &blank), Err(1));
+    assert_eq!(write_header(&mut [0; 80], &blank), Err(2));
 }
 
 #[test]
@@ -349,7 +349,7 @@ fn refusal_8() {
     ] {
         assert_eq!(answer(|r| set_word(r, 6, year << 9 | day)), found);
         let mut bytes = case();
-        let header = Header { year, day, ..read_header(&bytes).unwrap() };
+        let header = Header { year, day, ..read_header(1985, &bytes).unwrap() };
         assert_eq!(write_header(&mut bytes, &header).err().unwrap_or(0), found);
     }
     // Every fourth year from 00 on has a day 366.
@@ -405,18 +405,18 @@ fn refusal_11() {
 
 #[test]
 fn refusal_12() {
-    for rate in RATES {
+    for rate in EDITION_1985.rates {
         let mut r = plain(rate.hz, 1, 0);
         let count = rate.samples as usize;
         for short in 0..5 {
             let lengths: [usize; 4] = std::array::from_fn(|c| if c == short { count - 1 } else { count });
             let mut out = lengths.map(|length| vec![7i8; length]);
-            let found = read_samples(&r, out.each_mut().map(|c| c.as_mut_slice()));
+            let found = read_samples(1985, &r, out.each_mut().map(|c| c.as_mut_slice()));
             assert_eq!(found, if short < 4 { Err(12) } else { Ok(()) });
             assert!(out.iter().flatten().all(|&s| s == if short < 4 { 7 } else { 0 }));
             let before = r.clone();
             let ones = lengths.map(|length| vec![-1i8; length]);
-            let found = write_samples(&mut r, ones.each_ref().map(|c| c.as_slice()));
+            let found = write_samples(1985, &mut r, ones.each_ref().map(|c| c.as_slice()));
             assert_eq!(found, if short < 4 { Err(12) } else { Ok(()) });
             if short < 4 {
                 assert_eq!(r, before);
@@ -427,12 +427,12 @@ fn refusal_12() {
                 assert_eq!((&r[..80], &r[end..]), (&before[..80], &before[end..]));
             }
         }
-        assert_eq!(sample_time(&r, rate.samples - 1), Ok((rate.samples - 1) * 1_000_000 / rate.hz));
-        assert_eq!(sample_time(&r, rate.samples), Err(12));
+        assert_eq!(sample_time(1985, &r, rate.samples - 1), Ok((rate.samples - 1) * 1_000_000 / rate.hz));
+        assert_eq!(sample_time(1985, &r, rate.samples), Err(12));
     }
     let none = || [(); 4].map(|_| <&mut [i8]>::default());
-    assert_eq!(read_samples(&with(|r| set_word(r, 2, 0)), none()), Err(7));
-    assert_eq!(read_samples(&case(), none()), Err(12));
+    assert_eq!(read_samples(1985, &with(|r| set_word(r, 2, 0)), none()), Err(7));
+    assert_eq!(read_samples(1985, &case(), none()), Err(12));
 }
 
 const ROWS: usize = 20 * 65_535;
@@ -446,13 +446,13 @@ fn refusal_13() {
         (0, 86_401, 1, 13), (1, 86_400, 1, 13), (1, 86_399, 1, 0), (86_399, 1, 1, 0), (86_400, 1, 1, 13),
         (86_400, 0, 1, 13), (u64::MAX, 1, 1, 13), (0, u64::MAX, 1, 13), (0, 1, u64::MAX, 13),
     ] {
-        let opened = open(&pattern, first, count, highest, ROWS, SECONDS);
+        let opened = open(1985, &pattern, first, count, highest, ROWS, SECONDS);
         assert_eq!(opened.err().unwrap_or(0), found, "{first} {count} {highest}");
     }
-    assert_eq!(open(&[], 0, 0, 0, 0, 0), Err(1));
-    assert_eq!(open(&pattern, 0, 0, 1, 0, 0), Err(13));
+    assert_eq!(open(1985, &[], 0, 0, 0, 0, 0), Err(1));
+    assert_eq!(open(1985, &pattern, 0, 0, 1, 0, 0), Err(13));
 
-    let good = open(&pattern, 43_200, 1, 2, 40, 20).unwrap();
+    let good = open(1985, &pattern, 43_200, 1, 2, 40, 20).unwrap();
     let forged = |change: fn(&mut Opening)| {
         let mut o = good.clone();
         change(&mut o);
@@ -461,6 +461,9 @@ fn refusal_13() {
     for (o, found) in [
         (forged(|o| o.rate = 201), 13),
         (forged(|o| o.rate = 1_000), 0),
+        (forged(|o| o.rate = 31_250), 13),
+        (forged(|o| o.edition = 1986), 13),
+        (forged(|o| o.edition = 1992), 0),
         (forged(|o| o.tape = 0), 13),
         (forged(|o| o.tape = 255), 0),
         (forged(|o| o.year = 100), 13),
@@ -483,8 +486,8 @@ fn refusal_13() {
         assert_eq!(ledger.ask(&o, 43_200, 40, 20).err().unwrap_or(0), found);
         assert_eq!(ledger.means(&o, 43_200, 40, 20).err().unwrap_or(0), found);
         assert_eq!(ledger.take_out(&o, 1, 40, 20), Err(if found == 0 { 19 } else { 13 }));
-        assert_eq!(ledger.put(&o, &pattern, 40, 20), Err(if found == 0 { 15 } else { 13 }));
-        assert_eq!(ledger.put(&o, &[], 40, 20), Err(1));
+        assert_eq!(ledger.put(&o, 1985, &pattern, 40, 20), Err(if found == 0 { 15 } else { 13 }));
+        assert_eq!(ledger.put(&o, 1985, &[], 40, 20), Err(1));
         assert_eq!(ledger, Ledger::default());
     }
 }
@@ -493,11 +496,11 @@ fn refusal_13() {
 fn refusal_14() {
     let pattern = case();
     for (rows, seconds, found) in [(40, 60, 0), (39, 60, 14), (40, 59, 14), (0, 0, 14), (41, 61, 0)] {
-        let opened = open(&pattern, 43_199, 3, 2, rows, seconds);
+        let opened = open(1985, &pattern, 43_199, 3, 2, rows, seconds);
         assert_eq!(opened.err().unwrap_or(0), found);
-        let o = open(&pattern, 43_199, 3, 2, 40, 60).unwrap();
+        let o = open(1985, &pattern, 43_199, 3, 2, 40, 60).unwrap();
         let mut ledger = Ledger::default();
-        assert_eq!(ledger.put(&o, &pattern, rows, seconds).err().unwrap_or(0), found);
+        assert_eq!(ledger.put(&o, 1985, &pattern, rows, seconds).err().unwrap_or(0), found);
         assert_eq!(ledger.ask(&o, 43_200, rows, seconds).err().unwrap_or(0), found);
         assert_eq!(ledger.means(&o, 43_200, rows, seconds).err().unwrap_or(0), found);
         assert_eq!(ledger.book_test(&o, rows, seconds).err().unwrap_or(0), found);
@@ -508,7 +511,7 @@ fn refusal_14() {
 #[test]
 fn refusal_15() {
     let pattern = case();
-    let o = open(&pattern, 43_200, 1, 2, 40, 20).unwrap();
+    let o = open(1985, &pattern, 43_200, 1, 2, 40, 20).unwrap();
     let mut ledger = Ledger::default();
     let others: [fn(&mut Vec<u8>); 6] = [
         |r| *r = plain(1_000, 1, 43_200_000),
@@ -519,7 +522,7 @@ fn refusal_15() {
         |r| r[9] = 1,
     ];
     for change in others {
-        assert_eq!(ledger.put(&o, &with(change), 40, 20), Err(15));
+        assert_eq!(ledger.put(&o, 1985, &with(change), 40, 20), Err(15));
     }
     // 15 before 16 and 17; other fields may differ.
     let far = with(|r| {
@@ -527,23 +530,23 @@ fn refusal_15() {
         set_word(r, 2, 3);
         set_tag(r, 7, 0);
     });
-    assert_eq!(ledger.put(&o, &far, 40, 20), Err(15));
+    assert_eq!(ledger.put(&o, 1985, &far, 40, 20), Err(15));
     let free = with(|r| {
         r.resize(790, 1);
         set_word(r, 3, 395);
         set_word(r, 4, 0x0102);
         r[16..28].fill(1);
     });
-    assert_eq!(ledger.put(&o, &free, 40, 20), Ok(()));
+    assert_eq!(ledger.put(&o, 1985, &free, 40, 20), Ok(()));
 }
 
 #[test]
 fn refusal_16() {
-    let o = open(&plain(200, 9, 0), 5, 1, 2, 40, 20).unwrap();
+    let o = open(1985, &plain(200, 9, 0), 5, 1, 2, 40, 20).unwrap();
     let mut ledger = Ledger::default();
-    assert_eq!(ledger.put(&o, &plain(200, 2, 5_000), 40, 20), Ok(()));
-    assert_eq!(ledger.put(&o, &plain(200, 3, 5_000), 40, 20), Err(16));
-    assert_eq!(ledger.put(&o, &plain(200, 3, 0), 40, 20), Err(16));
+    assert_eq!(ledger.put(&o, 1985, &plain(200, 2, 5_000), 40, 20), Ok(()));
+    assert_eq!(ledger.put(&o, 1985, &plain(200, 3, 5_000), 40, 20), Err(16));
+    assert_eq!(ledger.put(&o, 1985, &plain(200, 3, 0), 40, 20), Err(16));
     for (number, found) in [(0, Err(16)), (1, Err(19)), (2, Ok(())), (3, Err(16)), (65_538, Err(16)), (u64::MAX, Err(16))] {
         assert_eq!(ledger.take_out(&o, number, 40, 20), found);
     }
@@ -551,10 +554,10 @@ fn refusal_16() {
 
 #[test]
 fn refusal_17() {
-    let o = open(&plain(200, 1, 0), 5, 2, 9, 180, 40).unwrap();
+    let o = open(1985, &plain(200, 1, 0), 5, 2, 9, 180, 40).unwrap();
     let mut ledger = Ledger::default();
     for (ms, found) in [(4_999, Err(17)), (5_000, Ok(())), (6_999, Ok(())), (7_000, Err(17))] {
-        assert_eq!(ledger.put(&o, &plain(200, 1, ms), 180, 40), found);
+        assert_eq!(ledger.put(&o, 1985, &plain(200, 1, ms), 180, 40), found);
     }
     for (second, found) in [(4, 17), (5, 0), (6, 0), (7, 17), (u64::MAX, 17)] {
         assert_eq!(ledger.ask(&o, second, 180, 40).err().unwrap_or(0), found);
@@ -566,25 +569,25 @@ fn refusal_17() {
 
 #[test]
 fn refusal_18() {
-    for rate in RATES {
+    for rate in EDITION_1985.rates {
         let full = rate.records_a_second;
         let (rows, seconds) = (20 * 99, 20 * 9);
-        let o = open(&plain(rate.hz, 1, 0), 0, 9, 99, rows, seconds).unwrap();
+        let o = open(1985, &plain(rate.hz, 1, 0), 0, 9, 99, rows, seconds).unwrap();
         let mut ledger = Ledger::default();
         for number in 1..=full {
-            assert_eq!(ledger.put(&o, &plain(rate.hz, number, 1_000), rows, seconds), Ok(()));
+            assert_eq!(ledger.put(&o, 1985, &plain(rate.hz, number, 1_000), rows, seconds), Ok(()));
         }
         let next = plain(rate.hz, full + 1, 1_999);
-        assert_eq!(ledger.put(&o, &next, rows, seconds), Err(18));
+        assert_eq!(ledger.put(&o, 1985, &next, rows, seconds), Err(18));
         // The record itself does not count; a record that moves away frees its room; so does one taken out.
-        assert_eq!(ledger.put(&o, &plain(rate.hz, full, 1_500), rows, seconds), Ok(()));
-        assert_eq!(ledger.put(&o, &next, rows, seconds), Err(18));
-        assert_eq!(ledger.put(&o, &plain(rate.hz, 1, 2_000), rows, seconds), Ok(()));
-        assert_eq!(ledger.put(&o, &next, rows, seconds), Ok(()));
-        assert_eq!(ledger.put(&o, &plain(rate.hz, 1, 1_000), rows, seconds), Err(18));
+        assert_eq!(ledger.put(&o, 1985, &plain(rate.hz, full, 1_500), rows, seconds), Ok(()));
+        assert_eq!(ledger.put(&o, 1985, &next, rows, seconds), Err(18));
+        assert_eq!(ledger.put(&o, 1985, &plain(rate.hz, 1, 2_000), rows, seconds), Ok(()));
+        assert_eq!(ledger.put(&o, 1985, &next, rows, seconds), Ok(()));
+        assert_eq!(ledger.put(&o, 1985, &plain(rate.hz, 1, 1_000), rows, seconds), Err(18));
         assert_eq!(ledger.ask(&o, 2, rows, seconds).unwrap().records, 1);
         assert_eq!(ledger.take_out(&o, 2, rows, seconds), Ok(()));
-        assert_eq!(ledger.put(&o, &plain(rate.hz, 1, 1_000), rows, seconds), Ok(()));
+        assert_eq!(ledger.put(&o, 1985, &plain(rate.hz, 1, 1_000), rows, seconds), Ok(()));
         assert_eq!(ledger.ask(&o, 1, rows, seconds).unwrap().records, full);
         assert_eq!(ledger.ask(&o, 2, rows, seconds).unwrap(), SecondTotals::default());
         assert_eq!(ledger.book_test(&o, rows, seconds), Ok(true));
@@ -593,10 +596,10 @@ fn refusal_18() {
 
 #[test]
 fn refusal_19() {
-    let o = open(&case(), 43_200, 1, 2, 40, 20).unwrap();
+    let o = open(1985, &case(), 43_200, 1, 2, 40, 20).unwrap();
     let mut ledger = Ledger::default();
     assert_eq!(ledger.take_out(&o, 1, 40, 20), Err(19));
-    ledger.put(&o, &case(), 40, 20).unwrap();
+    ledger.put(&o, 1985, &case(), 40, 20).unwrap();
     assert_eq!(ledger.take_out(&o, 2, 40, 20), Err(19));
     assert_eq!(ledger.take_out(&o, 1, 40, 20), Ok(()));
     assert_eq!(ledger.take_out(&o, 1, 40, 20), Err(19));
@@ -604,7 +607,7 @@ fn refusal_19() {
 
 #[test]
 fn kept_and_totals_of_a_second() {
-    let o = open(&plain(200, 1, 0), 0, 2, 9, 180, 40).unwrap();
+    let o = open(1985, &plain(200, 1, 0), 0, 2, 9, 180, 40).unwrap();
     let flagged = |number, flags: u8, sample: u8| {
         let mut r = plain(200, number, 0);
         r[0] |= flags;
@@ -614,7 +617,7 @@ fn kept_and_totals_of_a_second() {
     };
     let mut ledger = Ledger::default();
     let mut put = |number, flags, sample| {
-        ledger.put(&o, &flagged(number, flags, sample), 180, 40).unwrap();
+        ledger.put(&o, 1985, &flagged(number, flags, sample), 180, 40).unwrap();
         ledger.ask(&o, 0, 180, 40).unwrap()
     };
     let one = |sum, squares, least, greatest| [Total { sum, squares, least, greatest }; 4];
@@ -635,9 +638,9 @@ fn kept_and_totals_of_a_second() {
 #[test]
 fn means_of_a_second() {
     let both = |mean, mean_square| Ok([Means { mean, mean_square }; 4]);
-    for rate in RATES {
+    for rate in EDITION_1985.rates {
         let (rows, seconds) = (180, 40);
-        let o = open(&plain(rate.hz, 1, 0), 0, 2, 9, rows, seconds).unwrap();
+        let o = open(1985, &plain(rate.hz, 1, 0), 0, 2, 9, rows, seconds).unwrap();
         let mut ledger = Ledger::default();
         assert_eq!(ledger.means(&o, 1, rows, seconds), both(0.0, 0.0));
         // Over the samples held: of one record, of two, of one again where the other moved away, of a replaced one.
@@ -649,7 +652,7 @@ fn means_of_a_second() {
         ] {
             let mut r = plain(rate.hz, number, ms);
             r[80..2 * rate.n as usize].fill(sample);
-            ledger.put(&o, &r, rows, seconds).unwrap();
+            ledger.put(&o, 1985, &r, rows, seconds).unwrap();
             assert_eq!(ledger.means(&o, 1, rows, seconds), found);
         }
         assert_eq!(ledger.means(&o, 0, rows, seconds), both(-4.0, 16.0));
@@ -678,7 +681,7 @@ fn refusals_20_and_23() {
                 let mark = if new { 0x40 } else { 0xB0 };
                 let bytes: Vec<u8> = (first..=last).flat_map(|w| [w as u8, mark]).collect();
                 let found = if new || old == 0x80 >> at { Ok(bytes) } else { Err(23) };
-                assert_eq!(segment(&this, &earlier, number), found);
+                assert_eq!(segment(1985, &this, &earlier, number), found);
             }
         }
     }
@@ -687,10 +690,10 @@ fn refusals_20_and_23() {
     let (this, earlier) = (case(), case());
     for number in (0..300).chain([u64::MAX]) {
         let known = [7, 5, 2, 6, 10, 4, 8].contains(&number);
-        assert_eq!(segment(&this, &earlier, number), Err(if known { 23 } else { 20 }));
+        assert_eq!(segment(1985, &this, &earlier, number), Err(if known { 23 } else { 20 }));
     }
-    assert_eq!(segment(&with(|r| r[1] = 0), &[], 0), Err(7));
-    assert_eq!(segment(&this, &[], 0), Err(1));
+    assert_eq!(segment(1985, &with(|r| r[1] = 0), &[], 0), Err(7));
+    assert_eq!(segment(1985, &this, &[], 0), Err(1));
 }
 
 #[test]
@@ -723,10 +726,17 @@ fn lines_of_extreme_numbers() {
     assert_eq!(refused_line(u64::MAX), format!("refused,{most}\n"));
 }
 
+fn own(h: &mut Header) -> &mut Own1985 {
+    match &mut h.own {
+        Own::In1985(own) => own,
+        Own::In1992(_) => panic!("a header of 1992"),
+    }
+}
+
 #[test]
 fn refusal_22() {
     type Set = fn(&mut Header, u64);
-    let fields: [(Set, u32); 27] = [
+    let fields: [(Set, u32); 29] = [
         (|h, v| h.session_start = v, 1),
         (|h, v| h.copy_error = v, 1),
         (|h, v| h.tape_number = v, 8),
@@ -739,7 +749,7 @@ fn refusal_22() {
         (|h, v| h.predict[1] = v, 8),
         (|h, v| h.predict[9] = v, 8),
         (|h, v| h.status = v, 8),
-        (|h, v| h.filter = v, 4),
+        (|h, v| own(h).filter = v, 4),
         (|h, v| h.update_tag_ms = v, 27),
         (|h, v| h.rate_power = v, 3),
         (|h, v| h.rate_sign = v, 1),
@@ -751,17 +761,19 @@ fn refusal_22() {
         (|h, v| h.selector_4 = v, 4),
         (|h, v| h.counter_tag_ms = v, 27),
         (|h, v| (h.clock_origin, h.sync_word) = (0, v), 16),
-        (|h, v| h.word_39 = v, 16),
-        (|h, v| h.register_1 = v, 8),
-        (|h, v| h.register_2 = v, 8),
+        (|h, v| own(h).word_39 = v, 16),
+        (|h, v| own(h).register_1 = v, 8),
+        (|h, v| own(h).register_2 = v, 8),
+        (|h, v| own(h).no_field[0] = v, 0),
+        (|h, v| own(h).no_field[1] = v, 0),
     ];
-    let header = read_header(&case()).unwrap();
+    let header = read_header(1985, &case()).unwrap();
     for (set, width) in fields {
         let mut h = header.clone();
         set(&mut h, (1 << width) - 1);
         let mut r = case();
         assert_eq!(write_header(&mut r, &h), Ok(()));
-        assert_eq!(read_header(&r), Ok(h.clone()));
+        assert_eq!(read_header(1985, &r), Ok(h.clone()));
         for wide in [1 << width, u64::MAX] {
             set(&mut h, wide);
             let mut r = case();
@@ -770,7 +782,7 @@ fn refusal_22() {
         }
     }
     // Values a refusal of 1 to 11 names come before 22; a bit above 1 is only too wide.
-    let judged: [(Set, u64, u8); 22] = [
+    let judged: [(Set, u64, u8); 23] = [
         (|h, v| h.length_words = v, 65_536 + 390, 2),
         (|h, v| h.length_words = v, u64::MAX, 2),
         (|h, v| h.conversion = v, 1, 3),
@@ -792,7 +804,8 @@ fn refusal_22() {
         (|h, v| h.rate_digits = v, 100_000, 10),
         (|h, v| h.sync_word = v, 0x1_A55A, 11),
         (|h, v| h.clock_origin = v, 2, 22),
-        (|h, v| (h.rate_digits, h.filter) = (v, v), 100_000, 10),
+        (|h, v| (h.rate_digits, own(h).filter) = (v, v), 100_000, 10),
+        (|h, v| (h.rate_digits, own(h).no_field[1]) = (v, v), 100_000, 10),
     ];
     for (set, value, found) in judged {
         let mut h = header.clone();
@@ -800,7 +813,7 @@ fn refusal_22() {
         let mut r = case();
         assert_eq!(write_header(&mut r, &h).err().unwrap_or(0), found);
         assert!(found == 0 || r == case());
-        assert!(found != 0 || read_header(&r) == Ok(h));
+        assert!(found != 0 || read_header(1985, &r) == Ok(h));
     }
     // A buffer as long as the wide length says: 6.
     let mut h = header.clone();
@@ -809,7 +822,7 @@ fn refusal_22() {
     // What the buffer held is not judged.
     let mut r = vec![0xFF; 780];
     assert_eq!(write_header(&mut r, &header), Ok(()));
-    assert_eq!(read_header(&r), Ok(header));
+    assert_eq!(read_header(1985, &r), Ok(header));
 }
 
 #[test]
@@ -831,22 +844,22 @@ fn refusal_24() {
 #[test]
 fn reel_steps() {
     let reel = [case(), plain(1_000, 2, 5)].concat();
-    assert_eq!(step(&reel, 0), Step::Record { bytes: 0..780, next: 780 });
-    assert_eq!(step(&reel, 780), Step::Record { bytes: 780..3160, next: 3160 });
+    assert_eq!(step(1985, &reel, 0), Step::Record { bytes: 0..780, next: 780 });
+    assert_eq!(step(1985, &reel, 780), Step::Record { bytes: 780..3160, next: 3160 });
     for place in [3160, 3161, usize::MAX] {
-        assert_eq!(step(&reel, place), Step::Finished);
+        assert_eq!(step(1985, &reel, place), Step::Finished);
     }
-    assert_eq!(step(&[], 0), Step::Finished);
-    assert_eq!(step(&reel, 3159), Step::Refused(1));
-    assert_eq!(step(&reel, 3160 - 79), Step::Refused(1));
-    assert_eq!(step(&reel[..780 + 79], 780), Step::Refused(1));
-    assert_eq!(step(&reel[..780 + 80], 780), Step::Refused(2));
-    assert_eq!(step(&reel[..3159], 780), Step::Refused(2));
+    assert_eq!(step(1985, &[], 0), Step::Finished);
+    assert_eq!(step(1985, &reel, 3159), Step::Refused(1));
+    assert_eq!(step(1985, &reel, 3160 - 79), Step::Refused(1));
+    assert_eq!(step(1985, &reel[..780 + 79], 780), Step::Refused(1));
+    assert_eq!(step(1985, &reel[..780 + 80], 780), Step::Refused(2));
+    assert_eq!(step(1985, &reel[..3159], 780), Step::Refused(2));
     for (words, found) in [(0, 1), (39, 1), (40, 6), (389, 6), (391, 2), (65_535, 2)] {
-        assert_eq!(step(&with(|r| set_word(r, 3, words)), 0), Step::Refused(found));
+        assert_eq!(step(1985, &with(|r| set_word(r, 3, words)), 0), Step::Refused(found));
     }
     // Word 3 decides, not what follows; an accepted length within a longer reel is a record.
-    assert_eq!(step(&with(|r| r.push(0)), 0), Step::Record { bytes: 0..780, next: 780 });
-    assert_eq!(step(&with(|r| r.push(0)), 780), Step::Refused(1));
+    assert_eq!(step(1985, &with(|r| r.push(0)), 0), Step::Record { bytes: 0..780, next: 780 });
+    assert_eq!(step(1985, &with(|r| r.push(0)), 780), Step::Refused(1));
     assert_eq!(word(&case(), 3), 390);
 }

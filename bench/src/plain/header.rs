@@ -1,4 +1,6 @@
-//! The header read, and acceptance. FORMAT: "The record", refusals 1 to 11.
+//! The header of 1985 read, and acceptance. FORMAT: "The record", refusals 1 to 11.
+
+use super::words::{decimal, rate_digits, tag, three_words, word};
 
 /// The header's 46 numbers; as in the library each is of 64 bits, so that one can be too wide to be written.
 #[derive(Clone, Debug)]
@@ -39,46 +41,6 @@ pub struct Header {
 /// Bytes of the header.
 pub const HEADER: usize = 80;
 const LAST_MS: u64 = 86_399_999;
-const TAG_BITS: u32 = (1 << 27) - 1;
-/// What a field reads as that has a digit above 9.
-const NO_DECIMAL: u64 = u64::MAX;
-
-/// Word `w`, counted from 1.
-pub fn word(b: &[u8; HEADER], w: usize) -> u64 {
-    u64::from(u16::from_be_bytes([b[2 * w - 2], b[2 * w - 1]]))
-}
-
-/// The two words from `w` on.
-fn two_words(b: &[u8; HEADER], w: usize) -> u32 {
-    u32::from_be_bytes([b[2 * w - 2], b[2 * w - 1], b[2 * w], b[2 * w + 1]])
-}
-
-/// The 27 bits from bit 6 of word `w` on.
-fn tag(b: &[u8; HEADER], w: usize) -> u64 {
-    u64::from(two_words(b, w) & TAG_BITS)
-}
-
-/// The three words from `w` on.
-fn phase(b: &[u8; HEADER], w: usize) -> u64 {
-    word(b, w) << 32 | u64::from(two_words(b, w + 1))
-}
-
-/// The decimal digits of some bytes, two in each.
-fn decimal(bytes: &[u8]) -> u64 {
-    let two_digits = |value: u64, &byte: &u8| {
-        let (high, low) = (u64::from(byte >> 4), u64::from(byte & 15));
-        (high <= 9 && low <= 9).then_some(100 * value + 10 * high + low)
-    };
-    bytes.iter().try_fold(0, two_digits).unwrap_or(NO_DECIMAL)
-}
-
-/// The five digits of the rate, in two bytes and a half.
-fn rate_digits(b: &[u8; HEADER]) -> u64 {
-    match (decimal(&b[51..53]), u64::from(b[53] >> 4)) {
-        (NO_DECIMAL, _) | (_, 10..) => NO_DECIMAL,
-        (high, low) => 10 * high + low,
-    }
-}
 
 #[inline(always)]
 fn fields(b: &[u8; HEADER]) -> Header {
@@ -108,7 +70,7 @@ fn fields(b: &[u8; HEADER]) -> Header {
         rate_digits: rate_digits(b),
         rate_power: sign >> 1 & 7,
         rate_sign: sign & 1,
-        phases: [phase(b, 28), phase(b, 31)],
+        phases: [three_words(b, 28), three_words(b, 31)],
         selectors: [halves_1 >> 4, halves_1 & 15, halves_2 >> 4, halves_2 & 15],
         counter_tag_ms: tag(b, 35),
         sample_rate_hz: word(b, 37),
@@ -177,7 +139,7 @@ pub fn read_header(record: &[u8]) -> Result<Header, u8> {
 }
 
 impl Header {
-    /// The numbers in the order of the library's 46.
+    /// The numbers in the order of the library's first 46; its other two have no field in 1985.
     pub fn numbers(&mut self) -> Vec<&mut u64> {
         let mut all = vec![
             &mut self.clock_origin, &mut self.session_start, &mut self.copy_error, &mut self.conversion, &mut self.compression,

@@ -1,4 +1,4 @@
-//! Samples out to four channels and back in. FORMAT: "Samples".
+//! Samples of a record of 1985 out to four channels and back in. FORMAT: "Samples".
 
 use super::header::{accept, HEADER};
 

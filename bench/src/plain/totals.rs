@@ -1,5 +1,5 @@
-//! Totals of the four channels of a record. FORMAT: "The index of seconds". It is the work of the library's call: acceptance,
-//! then one pass over the record's own stretch of samples.
+//! Totals of the four channels of a record of 1985. FORMAT: "The index of seconds". It is the work of the library's call:
+//! acceptance, then one pass over the record's own stretch of samples.
 
 use super::header::{accept, HEADER};
 

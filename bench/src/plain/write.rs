@@ -1,6 +1,7 @@
-//! The header written. FORMAT: "Refusal numbers", what a writer judges.
+//! The header of 1985 written. FORMAT: "Refusal numbers", what a writer judges.
 
-use super::header::{judge, word, Header, HEADER};
+use super::header::{judge, Header, HEADER};
+use super::words::word;
 
 /// Whether every number has no more bits than its field; those in decimal digits were judged.
 fn fit(h: &Header) -> bool {

@@ -7,7 +7,7 @@ use mathlib.Core.Logic.{_⊎_, inl, inr, ⊎-elim}
 use native.Mathlib.Nat.{add-zero, add-suc, suc-add, zero-add, add-assoc, mul-assoc, pow-suc, mod-lt, mod-one, mod-eq-of-lt, zero-div, div-one, le-of-suc-le-suc, not-suc-le-zero}
 use native.Mathlib.Omega.{arith}
 use lib.Dec.{lit<}
-use lib.Pow.{mod-pow-add, high, low, shr-shr}
+use lib.Pow.{mod-pow-add, mod-mod-pow, field, high, low, shr-shr}
 use lib.ListN.{length, getD, List·getD-eq-default}
 use lib.Seq.{ext-getD}
 use borrow.Author.Tests.{lt-ltb, le-ltb, le-leb, lt-leb}
@@ -215,14 +215,41 @@ bit-kept s w v b i o =
     ∙ ⊎-elim (put-left s w v (bitAt b) i) (put-right s w v (bitAt b) i) o)
     (le-or-lt (8 * length b) i)
 
--- get after put
-pub get-set : (s w v : ℕ) (b : List ℕ) → s + w ≤ 8 * length b → v < 2 ^ w → getBits s w (setBits s w v b) ≡ v
+-- get after put: the lowest bits of the value
+pub get-low : (s w v : ℕ) (b : List ℕ) → s + w ≤ 8 * length b → getBits s w (setBits s w v b) ≡ v % 2 ^ w
 unfolding getBits setBits
-get-set s w v b h q =
+get-low s w v b h =
     let f : ℕ → ℕ = put s w v (bitAt b) in
     num-ext (bitAt (bytesOf f 0 (length b))) f s w
     (λ i p r. bitAt-bytesOf f (put-lt s w v (bitAt b) (bitAt-lt b)) (length b) i (omega arith))
-    ∙ num-put s w v (bitAt b) ∙ mod-eq-of-lt q
+    ∙ num-put s w v (bitAt b)
+
+pub get-set : (s w v : ℕ) (b : List ℕ) → s + w ≤ 8 * length b → v < 2 ^ w → getBits s w (setBits s w v b) ≡ v
+get-set s w v b h q = get-low s w v b h ∙ mod-eq-of-lt q
+
+-- put takes no more than the lowest bits
+bit-low : (w v k : ℕ) → k < w → v / 2 ^ k % 2 ≡ v % 2 ^ w / 2 ^ k % 2
+bit-low w v k h =
+    let j : ℕ = w - 1 - k in
+    let e : w ≡ suc j + k = omega arith in
+    sym (mod-mod-pow (v / 2 ^ k) j 1 ∙ refl)
+    ∙ ap (λ (z : ℕ). v / 2 ^ k % 2 ^ z % 2) (let a : j + 1 ≡ suc j = omega arith in a)
+    ∙ sym (ap (λ (z : ℕ). z % 2) (field v (suc j) k))
+    ∙ ap (λ (z : ℕ). v % 2 ^ z / 2 ^ k % 2) (sym e)
+
+put-low : (s w v : ℕ) (f : ℕ → ℕ) (i : ℕ) → put s w v f i ≡ put s w (v % 2 ^ w) f i
+put-low s w v f i =
+    ⊎-elim
+    (λ p.
+    ⊎-elim (λ q. put-right s w v f i q ∙ sym (put-right s w (v % 2 ^ w) f i q))
+    (λ q. put-in s w v f i p q ∙ bit-low w v (s + w - 1 - i) (omega arith) ∙ sym (put-in s w (v % 2 ^ w) f i p q))
+    (le-or-lt (s + w) i))
+    (λ p. put-left s w v f i p ∙ sym (put-left s w (v % 2 ^ w) f i p))
+    (le-or-lt s i)
+
+pub set-low : (s w v : ℕ) (b : List ℕ) → setBits s w v b ≡ setBits s w (v % 2 ^ w) b
+unfolding setBits
+set-low s w v b = bytesOf-ext (put s w v (bitAt b)) (put s w (v % 2 ^ w) (bitAt b)) (put-low s w v (bitAt b)) 0 (length b)
 
 -- get of another field after put
 pub get-other : (s w v t u : ℕ) (b : List ℕ) → (t + u ≤ s) ⊎ (s + w ≤ t) → getBits t u (setBits s w v b) ≡ getBits t u b

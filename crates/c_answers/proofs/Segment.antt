@@ -25,8 +25,8 @@ begins l h =
     size : length (take (length l) padded) ≡ length l
     size = simp length-take (omega (arith, length-tab (λ (k : ℕ). getD l k 0) 0 longestSegment))
 
-pub room-for-segment : (this earlier : List ℕ) (number : ℕ)
-    → take (length (segmentAnswer this earlier number .value))
-    (tab (λ (k : ℕ). getD (segmentAnswer this earlier number .value) k 0) 0 longestSegment)
-    ≡ segmentAnswer this earlier number .value
-room-for-segment this earlier number = begins (segmentAnswer this earlier number .value) (at-most this earlier number)
+pub room-for-segment : (n : ℕ) (this earlier : List ℕ) (number : ℕ)
+    → take (length (segmentAnswer n this earlier number .value))
+    (tab (λ (k : ℕ). getD (segmentAnswer n this earlier number .value) k 0) 0 longestSegment)
+    ≡ segmentAnswer n this earlier number .value
+room-for-segment n this earlier number = begins (segmentAnswer n this earlier number .value) (at-most n this earlier number)

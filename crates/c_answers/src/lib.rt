@@ -132,6 +132,7 @@ const NO_OPENING: Opening = Opening {
     first_second: 0,
     second_count: 0,
     highest_number: 0,
+    edition: 0,
     sample_rate_hz: 0,
     tape_number: 0,
     year: 0,

@@ -1,4 +1,4 @@
-// Refusals 1 to 11 as one chain, over what is judged of a record or of a header to be written. FORMAT, "Refusal numbers".
+// Refusal 25 and refusals 1 to 11 of an edition as one chain, over what is judged of a record or of a header to be written. FORMAT, "Refusal numbers".
 ghost use mathlib.Core.Path.{_≡_};
 ghost use mathlib.Core.Bool.{not};
 ghost use Prim.Native.Nat.{_*_};
@@ -54,11 +54,11 @@ pub fn wrong_date(year: u64, day: u64) -> bool
     (year > 99) | ((day == 0) | (day > last))
 }
 
-// The number of the first check of 1 to 11 that applies, or 0. Each line has the checks after its own as what else is given, so
+// The number of the first check, 25 and then 1 to 11, that applies, or 0. Each line has the checks after its own as what else is given, so
 // the last check comes first; the sample rate, whose lines are branches, is looked up only where its checks are, which leaves
 // little to be kept across them.
-pub fn first_check(j: Judged) -> u8
-    ensures { λ r. ⌜ r ≡ first (checks j) ⌝ }
+pub fn first_check(edition: u64, j: Judged) -> u8
+    ensures { λ r. ⌜ r ≡ first (checks edition j) ⌝ }
 {
     let sync = answers::check(11, (j.clock_origin == 1) & (j.sync != SYNC_PATTERN), 0);
     let digits = answers::check(10, !j.decimals, sync);
@@ -70,13 +70,16 @@ pub fn first_check(j: Judged) -> u8
     let date = wrong_date(j.year, j.day);
     let dates = answers::check(8, date, times);
     let numbers = answers::check(7, (j.tape_number == 0) | (j.record_number == 0), dates);
-    let rate = sample_rates::sample_rate_of(j.sample_rate);
+    let rate = editions::sample_rate_of(edition, j.sample_rate);
     let other_size = (j.length_words != rate.words_b) & (j.length_words != rate.words_a);
     let sizes = answers::check(6, other_size, numbers);
     let rates = answers::check(5, rate.hz == 0, sizes);
     let compression = answers::check(4, j.compression != 1, rates);
-    let conversion = answers::check(3, j.conversion == 1, compression);
+    let other = editions::other_resolution(edition);
+    let conversion = answers::check(3, j.conversion == other, compression);
     let length = wrong_length(j.bytes, j.length_words);
     let lengths = answers::check(2, length, conversion);
-    answers::check(1, j.bytes < header::HEADER_BYTES, lengths)
+    let header_bytes = editions::header_bytes(edition);
+    let short = answers::check(1, j.bytes < header_bytes, lengths);
+    answers::check(25, editions::is_unknown(edition), short)
 }

@@ -6,17 +6,19 @@ use mathlib.Core.Bool.{Bool, true, false, cond, not, _&&_, _||_}
 use mathlib.Core.List.{List}
 use mathlib.Core.Logic.{_⊎_}
 use native.Mathlib.Omega.{arith}
-use native.Mathlib.Nat.{pow-suc}
+use native.Mathlib.Nat.{pow-suc, mod-eq-of-lt}
 use lib.Pow.{pow-add}
 use lib.Dec.{T, leb, ltb, eqb, leb→le, ltb→lt, lt→ltb, eqb→eq}
 use lib.ListN.{length, getD}
 use Rattle.lists.proofs.Truth.{left, right}
 use Rattle.bits.specs.Bits.{bitAt, getBits, setBits, widest}
 use Rattle.bits.specs.Decimal.{decimalValue, digits, coded}
-use Rattle.bits.proofs.Bits.{getBits-lt, get-set, get-other, set-get, length-setBits, bit-kept}
+use Rattle.bits.proofs.Bits.{getBits-lt, get-low, set-low, get-other, set-get, length-setBits, bit-kept}
 use Rattle.bits.proofs.Decimal.{coded-lt, coded-digits, decimal-coded, coded-decimal, decimal-lt}
+use Rattle.signed.specs.Signed.{signedValue, signedFits}
+use Rattle.signed.proofs.Codes as signs
 use Rattle.fields.specs.declared.Field.{Field}
-use Rattle.fields.specs.Field.{wordOf, bitOf, start, bitWidth, lastReadableWord, isDecimal, digitCount, encoded, decoded, valueOf, withValue, digitsGood, decimalFits, binaryFits, Readable, readable, wholeDigits}
+use Rattle.fields.specs.Field.{wordOf, bitOf, start, bitWidth, lastReadableWord, isDecimal, isSigned, digitCount, encoded, decoded, valueOf, withValue, digitsGood, decimalFits, binaryFits, Readable, readable, wholeDigits}
 
 -- the test gives the facts
 pub is-readable : (f : Field) → T (readable f) → Readable f
@@ -47,27 +49,48 @@ digits-width w t =
     let e : w % 4 ≡ 0 = eqb→eq (w % 4) 0 t in
     sixteen (w / 4) ∙ ap (λ (z : ℕ). 2 ^ z) (omega arith)
 
--- the code of a value that fits has no more bits than the field, and stands for the value
-code-value : (k : Bool) (w v : ℕ) → T (not k || eqb (w % 4) 0) → T (not k || ltb v (10 ^ (w / 4))) → T (k || ltb v (2 ^ w))
-    → (cond k (coded (w / 4) v) v < 2 ^ w) × (cond k (decimalValue (w / 4) (cond k (coded (w / 4) v) v))
-    (cond k (coded (w / 4) v) v) ≡ v)
-code-value true w v whole d b = (
-  subst (λ (z : ℕ). coded (w / 4) v < z) (digits-width w whole) (coded-lt (w / 4) v),
-  decimal-coded (w / 4) v (ltb→lt v (10 ^ (w / 4)) d),
-)
-code-value false w v whole d b = (ltb→lt v (2 ^ w) b, refl)
+-- a code, a value and what fits, by the kind of the field and its width
+abbrev codeIn : Bool → ℕ → ℕ → ℕ
+codeIn k w v = cond k (coded (w / 4) v) v
 
--- a code of good digits is the code of its value, which fits
-value-code : (k : Bool) (w x : ℕ) → T (not k || eqb (w % 4) 0) → x < 2 ^ w → T (not k || digits (w / 4) x)
-    → cond k (coded (w / 4) (cond k (decimalValue (w / 4) x) x)) (cond k (decimalValue (w / 4) x) x) ≡ x
-value-code true w x whole h g = coded-decimal (w / 4) x (subst (λ (z : ℕ). x < z) (sym (digits-width w whole)) h) g
-value-code false w x whole h g = refl
+abbrev valueIn : Bool → Bool → ℕ → ℕ → ℕ
+valueIn k s w x = cond k (decimalValue (w / 4) x) (cond s (signedValue w x) x)
 
-value-fits : (k : Bool) (w x : ℕ) → x < 2 ^ w → T (not k || digits (w / 4) x)
-    → T (not k || ltb (cond k (decimalValue (w / 4) x) x) (10 ^ (w / 4)))
-    × T (k || ltb (cond k (decimalValue (w / 4) x) x) (2 ^ w))
-value-fits true w x h g = (lt→ltb (decimalValue (w / 4) x) (10 ^ (w / 4)) (decimal-lt (w / 4) x g), tt)
-value-fits false w x h g = (tt, lt→ltb x (2 ^ w) h)
+abbrev wholeIn : Bool → Bool → ℕ → Bool
+wholeIn k s w = (not k || eqb (w % 4) 0) && (not s || leb 1 w)
+
+abbrev bitsIn : Bool → ℕ → ℕ → Bool
+bitsIn s w v = cond s (signedFits w v) (ltb v (2 ^ w))
+
+-- digits are no more bits than the field has
+code-whole : (s : Bool) (w v : ℕ) → T (wholeIn true s w) → coded (w / 4) v % 2 ^ w ≡ coded (w / 4) v
+code-whole s w v whole =
+    mod-eq-of-lt
+    (subst (λ (z : ℕ). coded (w / 4) v < z) (digits-width w (left (eqb (w % 4) 0) _ whole)) (coded-lt (w / 4) v))
+
+-- the lowest bits of the code of a value that fits stand for the value
+code-value : (k s : Bool) (w v : ℕ) → w ≤ widest → T (wholeIn k s w) → T (not k || ltb v (10 ^ (w / 4))) → T (k || bitsIn s w v)
+    → valueIn k s w (codeIn k w v % 2 ^ w) ≡ v
+code-value true s w v few whole d b =
+    ap (decimalValue (w / 4)) (code-whole s w v whole) ∙ decimal-coded (w / 4) v (ltb→lt v (10 ^ (w / 4)) d)
+code-value false true w v few whole d b = signs.code-value w (leb→le 1 w whole) few v b
+code-value false false w v few whole d b = mod-eq-of-lt (ltb→lt v (2 ^ w) b)
+
+-- a code of good digits is the lowest bits of the code of its value, which fits
+value-code : (k s : Bool) (w x : ℕ) → w ≤ widest → T (wholeIn k s w) → x < 2 ^ w → T (not k || digits (w / 4) x)
+    → codeIn k w (valueIn k s w x) % 2 ^ w ≡ x
+value-code true s w x few whole h g =
+    code-whole s w (decimalValue (w / 4) x) whole
+    ∙ coded-decimal (w / 4) x (subst (λ (z : ℕ). x < z) (sym (digits-width w (left (eqb (w % 4) 0) _ whole))) h) g
+value-code false true w x few whole h g = signs.value-code w (leb→le 1 w whole) few x h
+value-code false false w x few whole h g = mod-eq-of-lt h
+
+value-fits : (k s : Bool) (w x : ℕ) → w ≤ widest → T (wholeIn k s w) → x < 2 ^ w → T (not k || digits (w / 4) x)
+    → T (not k || ltb (valueIn k s w x) (10 ^ (w / 4)))
+    × T (k || bitsIn s w (valueIn k s w x))
+value-fits true s w x few whole h g = (lt→ltb (decimalValue (w / 4) x) (10 ^ (w / 4)) (decimal-lt (w / 4) x g), tt)
+value-fits false true w x few whole h g = (tt, signs.value-fits w (leb→le 1 w whole) few x h)
+value-fits false false w x few whole h g = (tt, lt→ltb x (2 ^ w) h)
 
 -- ## one field of bytes
 
@@ -76,12 +99,12 @@ unfolding withValue
 length-with f v b = length-setBits (start f) (bitWidth f) (encoded f v) b
 
 -- a value that was put is read
-pub value-with : (f : Field) (v : ℕ) (b : List ℕ) → T (wholeDigits f) → start f + bitWidth f ≤ 8 * length b
+pub value-with : (f : Field) (v : ℕ) (b : List ℕ) → T (readable f) → T (wholeDigits f) → start f + bitWidth f ≤ 8 * length b
     → T (decimalFits f v) → T (binaryFits f v) → valueOf f (withValue f v b) ≡ v
 unfolding valueOf withValue
-value-with f v b t inside d n =
-    let p = code-value (isDecimal f) (bitWidth f) v t d n in
-    ap (decoded f) (get-set (start f) (bitWidth f) (encoded f v) b inside (p .0)) ∙ p .1
+value-with f v b r t inside d n =
+    ap (decoded f) (get-low (start f) (bitWidth f) (encoded f v) b inside)
+    ∙ code-value (isDecimal f) (isSigned f) (bitWidth f) v (is-readable f r .narrow) t d n
 
 -- another field is as it was
 pub value-other : (f g : Field) (v : ℕ) (b : List ℕ) → (start f + bitWidth f ≤ start g) ⊎ (start g + bitWidth g ≤ start f)
@@ -90,40 +113,43 @@ unfolding valueOf withValue
 value-other f g v b o = ap (decoded f) (get-other (start g) (bitWidth g) (encoded g v) (start f) (bitWidth f) b o)
 
 -- what is read and put back changes nothing
-pub with-value : (f : Field) (b : List ℕ) → T (wholeDigits f) → ((k : ℕ) → getD b k 0 < 256) → T (digitsGood f b)
+pub with-value : (f : Field) (b : List ℕ) → T (readable f) → T (wholeDigits f) → ((k : ℕ) → getD b k 0 < 256) → T (digitsGood f b)
     → withValue f (valueOf f b) b ≡ b
 unfolding valueOf withValue digitsGood
-with-value f b t h g =
-    ap (λ (x : ℕ). setBits (start f) (bitWidth f) x b)
-    (value-code (isDecimal f) (bitWidth f) (getBits (start f) (bitWidth f) b) t (getBits-lt (start f) (bitWidth f) b) g)
+with-value f b r t h g =
+    set-low (start f) (bitWidth f) (encoded f (valueOf f b)) b
+    ∙ ap (λ (x : ℕ). setBits (start f) (bitWidth f) x b)
+    (value-code (isDecimal f) (isSigned f) (bitWidth f) (getBits (start f) (bitWidth f) b) (is-readable f r .narrow) t
+    (getBits-lt (start f) (bitWidth f) b) g)
     ∙ set-get (start f) (bitWidth f) b h
 
 -- what a binary field holds has no more bits than the field
-pub value-lt : (f : Field) (b : List ℕ) → isDecimal f ≡ false → valueOf f b < 2 ^ bitWidth f
+pub value-lt : (f : Field) (b : List ℕ) → isDecimal f ≡ false → isSigned f ≡ false → valueOf f b < 2 ^ bitWidth f
 unfolding valueOf
-value-lt f b e =
-    subst (λ (t : Bool). cond t (decimalValue (digitCount f) (getBits (start f) (bitWidth f) b))
-    (getBits (start f) (bitWidth f) b) < 2 ^ bitWidth f) (sym e)
-    (getBits-lt (start f) (bitWidth f) b)
+value-lt f b e n =
+    let x : ℕ = getBits (start f) (bitWidth f) b in
+    subst (λ (z : ℕ). z < 2 ^ bitWidth f) (sym (λ i. valueIn (e i) (n i) (bitWidth f) x)) (getBits-lt (start f) (bitWidth f) b)
 
 -- what is read from good digits fits
-pub read-fits : (f : Field) (b : List ℕ) → T (digitsGood f b) → T (decimalFits f (valueOf f b)) × T (binaryFits f (valueOf f b))
+pub read-fits : (f : Field) (b : List ℕ) → T (readable f) → T (wholeDigits f) → T (digitsGood f b)
+    → T (decimalFits f (valueOf f b)) × T (binaryFits f (valueOf f b))
 unfolding valueOf digitsGood
-read-fits f b g = value-fits (isDecimal f) (bitWidth f) (getBits (start f) (bitWidth f) b) (getBits-lt (start f) (bitWidth f) b) g
+read-fits f b r t g =
+    value-fits (isDecimal f) (isSigned f) (bitWidth f) (getBits (start f) (bitWidth f) b) (is-readable f r .narrow) t
+    (getBits-lt (start f) (bitWidth f) b) g
 
 -- digits that were put are good
-code-digits : (k : Bool) (n v : ℕ) → T (not k || digits n (cond k (coded n v) v))
-code-digits true n v = coded-digits n v
-code-digits false n v = tt
+code-digits : (k s : Bool) (w v : ℕ) → T (wholeIn k s w) → T (not k || digits (w / 4) (codeIn k w v % 2 ^ w))
+code-digits true s w v whole = subst (λ (x : ℕ). T (digits (w / 4) x)) (sym (code-whole s w v whole)) (coded-digits (w / 4) v)
+code-digits false s w v whole = tt
 
-pub digits-with : (f : Field) (v : ℕ) (b : List ℕ) → T (wholeDigits f) → start f + bitWidth f ≤ 8 * length b
+pub digits-with : (f : Field) (v : ℕ) (b : List ℕ) → T (readable f) → T (wholeDigits f) → start f + bitWidth f ≤ 8 * length b
     → T (decimalFits f v) → T (binaryFits f v) → T (digitsGood f (withValue f v b))
 unfolding withValue digitsGood
-digits-with f v b t inside d n =
-    let p = code-value (isDecimal f) (bitWidth f) v t d n in
+digits-with f v b r t inside d n =
     subst (λ (x : ℕ). T (not (isDecimal f) || digits (digitCount f) x))
-    (sym (get-set (start f) (bitWidth f) (encoded f v) b inside (p .0)))
-    (code-digits (isDecimal f) (digitCount f) v)
+    (sym (get-low (start f) (bitWidth f) (encoded f v) b inside))
+    (code-digits (isDecimal f) (isSigned f) (bitWidth f) v t)
 
 pub digits-other : (f g : Field) (v : ℕ) (b : List ℕ) → (start f + bitWidth f ≤ start g) ⊎ (start g + bitWidth g ≤ start f)
     → digitsGood f (withValue g v b) ≡ digitsGood f b

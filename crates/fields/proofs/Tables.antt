@@ -2,7 +2,7 @@
 -- changes nothing, and bits that no field names are kept. Assumes nothing.
 use Prim.Native.Nat.{ℕ, zero, suc, _+_, _*_, _≤_, _<_}
 use mathlib.Core.Path.{_≡_, refl, ap, sym, _∙_, subst}
-use mathlib.Core.Bool.{Bool, _&&_}
+use mathlib.Core.Bool.{Bool, _&&_, _||_}
 use mathlib.Core.List.{List, [], _∷_}
 use mathlib.Core.Logic.{_⊎_, inl, inr, ⊎-elim}
 use native.Mathlib.Omega.{arith}
@@ -13,7 +13,7 @@ use Rattle.lists.proofs.Truth.{left, right, both, either}
 use Rattle.bits.specs.Bits.{bitAt}
 use Rattle.fields.specs.declared.Field.{Field}
 use Rattle.fields.specs.Field.{none, start, bitWidth, valueOf, withValue, digitsGood, decimalFits, binaryFits, readable, wholeDigits}
-use Rattle.fields.specs.Table.{readAll, writeAll, allDigitsGood, allFit, apart, allApart, sound, unnamed}
+use Rattle.fields.specs.Table.{readAll, writeAll, allDigitsGood, allFit, apart, allApart, sound, unnamed, noField}
 use Rattle.fields.proofs.OneField.{length-with, value-with, value-other, with-value, read-fits, digits-with, digits-other, bit-other}
 
 -- ## the test, taken apart
@@ -101,7 +101,7 @@ read-write (f ∷ fs) (v ∷ vs) b t d n =
     let c : List ℕ = withValue f v b in
     let head : valueOf f (writeAll fs vs c) ≡ v =
     value-kept f fs vs c (sound-apart (8 * length b) f fs t)
-    ∙ value-with f v b (sound-digits (8 * length b) f fs t) (sound-inside (8 * length b) f fs t)
+    ∙ value-with f v b (sound-readable (8 * length b) f fs t) (sound-digits (8 * length b) f fs t) (sound-inside (8 * length b) f fs t)
     (left (decimalFits f v) (allFit decimalFits fs vs) d) (left (binaryFits f v) (allFit binaryFits fs vs) n) in
     let tail : readAll fs (writeAll fs vs c) ≡ vs =
     read-write fs vs c (still-sound f v b fs (sound-rest (8 * length b) f fs t))
@@ -119,7 +119,7 @@ digits-write (f ∷ fs) (v ∷ vs) b t d n =
     let c : List ℕ = withValue f v b in
     both (digitsGood f (writeAll fs vs c)) (allDigitsGood fs (writeAll fs vs c))
     (subst T (sym (digits-kept f fs vs c (sound-apart (8 * length b) f fs t)))
-    (digits-with f v b (sound-digits (8 * length b) f fs t) (sound-inside (8 * length b) f fs t)
+    (digits-with f v b (sound-readable (8 * length b) f fs t) (sound-digits (8 * length b) f fs t) (sound-inside (8 * length b) f fs t)
     (left (decimalFits f v) (allFit decimalFits fs vs) d) (left (binaryFits f v) (allFit binaryFits fs vs) n)))
     (digits-write fs vs c (still-sound f v b fs (sound-rest (8 * length b) f fs t))
     (right (decimalFits f v) (allFit decimalFits fs vs) d) (right (binaryFits f v) (allFit binaryFits fs vs) n))
@@ -129,16 +129,16 @@ pub write-read : (n : ℕ) (fs : List Field) (b : List ℕ) → T (sound n fs) �
     → writeAll fs (readAll fs b) b ≡ b
 write-read n [] b t h g = refl
 write-read n (f ∷ fs) b t h g =
-    ap (writeAll fs (readAll fs b)) (with-value f b (sound-digits n f fs t) h (left (digitsGood f b) (allDigitsGood fs b) g))
+    ap (writeAll fs (readAll fs b)) (with-value f b (sound-readable n f fs t) (sound-digits n f fs t) h (left (digitsGood f b) (allDigitsGood fs b) g))
     ∙ write-read n fs b (sound-rest n f fs t) h (right (digitsGood f b) (allDigitsGood fs b) g)
 
 -- what is read from good digits fits
-pub values-fit : (fs : List Field) (b : List ℕ) → T (allDigitsGood fs b)
+pub values-fit : (n : ℕ) (fs : List Field) (b : List ℕ) → T (sound n fs) → T (allDigitsGood fs b)
     → T (allFit decimalFits fs (readAll fs b)) × T (allFit binaryFits fs (readAll fs b))
-values-fit [] b g = (tt, tt)
-values-fit (f ∷ fs) b g =
-    let p = read-fits f b (left (digitsGood f b) (allDigitsGood fs b) g) in
-    let q = values-fit fs b (right (digitsGood f b) (allDigitsGood fs b) g) in (
+values-fit n [] b t g = (tt, tt)
+values-fit n (f ∷ fs) b t g =
+    let p = read-fits f b (sound-readable n f fs t) (sound-digits n f fs t) (left (digitsGood f b) (allDigitsGood fs b) g) in
+    let q = values-fit n fs b (sound-rest n f fs t) (right (digitsGood f b) (allDigitsGood fs b) g) in (
       both (decimalFits f (valueOf f b)) _ (p .0) (q .0),
       both (binaryFits f (valueOf f b)) _ (p .1) (q .1),
     )
@@ -160,3 +160,12 @@ bits-kept (f ∷ fs) (v ∷ vs) b i u = bits-kept fs vs (withValue f v b) i (u .
 pub past-unnamed : (n : ℕ) (fs : List Field) (i : ℕ) → T (sound n fs) → n ≤ i → unnamed i fs
 past-unnamed n [] i t h = tt
 past-unnamed n (f ∷ fs) i t h = (inr (omega (arith, sound-inside n f fs t)), past-unnamed n fs i (sound-rest n f fs t) h)
+
+-- the bits between two where no field is belong to none
+pub between-unnamed : (first end : ℕ) (fs : List Field) (i : ℕ) → T (noField first end fs) → first ≤ i → i < end → unnamed i fs
+between-unnamed first end [] i t p q = tt
+between-unnamed first end (f ∷ fs) i t p q = (
+  ⊎-elim (λ h. inr (omega (arith, leb→le (start f + bitWidth f) first h))) (λ h. inl (omega (arith, leb→le end (start f) h)))
+      (either (leb (start f + bitWidth f) first) (leb end (start f)) (left (leb (start f + bitWidth f) first || leb end (start f)) (noField first end fs) t)),
+  between-unnamed first end fs i (right (leb (start f + bitWidth f) first || leb end (start f)) (noField first end fs) t) p q,
+)

@@ -6,12 +6,13 @@ use mathlib.Core.List.{List}
 use lib.Dec.{leb, ltb, eqb}
 use Rattle.bits.specs.Bits.{getBits, setBits, widest}
 use Rattle.bits.specs.Decimal.{decimalValue, digits, coded}
+use Rattle.signed.specs.Signed.{signedValue, signedFits}
 use Rattle.fields.specs.declared.Field.{Field}
 
 -- from bit a of word m to bit b of word n
 infixl 20 word_bit_until_bit_
 abbrev pub word_bit_until_bit_ : ℕ → ℕ → ℕ → ℕ → Field
-word m bit a until n bit b = record { 0 = m; 1 = a; 2 = 16 * n + b - (16 * m + a) + 1; 3 = false }
+word m bit a until n bit b = record { 0 = m; 1 = a; 2 = 16 * n + b - (16 * m + a) + 1; 3 = false; 4 = false }
 
 -- bits a to b of word m
 infixl 20 word_bits_to_
@@ -23,11 +24,16 @@ infixl 20 word_
 abbrev pub word_ : ℕ → Field
 word m = word m bits 1 to 16
 
+-- no bits, before word m: a place of the table that an edition leaves empty; its value is 0
+infixl 20 empty-before-word_
+abbrev pub empty-before-word_ : ℕ → Field
+empty-before-word m = record { 0 = m; 1 = 1; 2 = 0; 3 = false; 4 = false }
+
 -- no field: what stands past the end of a table
 abbrev pub none : Field
-none = record { 0 = 0; 1 = 0; 2 = 0; 3 = false }
+none = record { 0 = 0; 1 = 0; 2 = 0; 3 = false; 4 = false }
 
--- its word and first bit, counted from 1, its number of bits, and whether it holds decimal digits
+-- its word and first bit, counted from 1, its number of bits, and whether it holds decimal digits or a signed number
 abbrev pub wordOf : Field → ℕ
 wordOf f = f .0
 
@@ -40,9 +46,15 @@ bitWidth f = f .2
 abbrev pub isDecimal : Field → Bool
 isDecimal f = f .3
 
--- the same bits, as decimal digits of four bits each
+abbrev pub isSigned : Field → Bool
+isSigned f = f .4
+
+-- the same bits, as decimal digits of four bits each, and as a signed number
 abbrev pub bcd : Field → Field
-bcd f = record { 0 = wordOf f; 1 = bitOf f; 2 = bitWidth f; 3 = true }
+bcd f = record { 0 = wordOf f; 1 = bitOf f; 2 = bitWidth f; 3 = true; 4 = false }
+
+abbrev pub signed : Field → Field
+signed f = record { 0 = wordOf f; 1 = bitOf f; 2 = bitWidth f; 3 = false; 4 = true }
 
 -- the first bit, counted from 0 through the whole header, and the number of decimal digits
 abbrev pub start : Field → ℕ
@@ -51,9 +63,10 @@ start f = 16 * (wordOf f - 1) + (bitOf f - 1)
 abbrev pub digitCount : Field → ℕ
 digitCount f = bitWidth f / 4
 
--- the value that a code, a field's bits as a number, stands for; and the code of a value
+-- the value that a code, a field's bits as a number, stands for; and the code of a value, of which a field takes the lowest bits
 abbrev pub decoded : Field → ℕ → ℕ
-decoded f code = cond (isDecimal f) (decimalValue (digitCount f) code) code
+decoded f code =
+    cond (isDecimal f) (decimalValue (digitCount f) code) (cond (isSigned f) (signedValue (bitWidth f) code) code)
 
 abbrev pub encoded : Field → ℕ → ℕ
 encoded f value = cond (isDecimal f) (coded (digitCount f) value) value
@@ -70,12 +83,15 @@ withValue f v b = setBits (start f) (bitWidth f) (encoded f v) b
 unfoldable pub digitsGood : Field → List ℕ → Bool
 digitsGood f b = not (isDecimal f) || digits (digitCount f) (getBits (start f) (bitWidth f) b)
 
--- a value has no more digits than a decimal field, or no more bits than a binary one
+-- a value has no more digits than a decimal field, or is one that the bits of any other can hold
 abbrev pub decimalFits : Field → ℕ → Bool
 decimalFits f v = not (isDecimal f) || ltb v (10 ^ digitCount f)
 
+abbrev pub bitsFit : Field → ℕ → Bool
+bitsFit f v = cond (isSigned f) (signedFits (bitWidth f) v) (ltb v (2 ^ bitWidth f))
+
 abbrev pub binaryFits : Field → ℕ → Bool
-binaryFits f v = isDecimal f || ltb v (2 ^ bitWidth f)
+binaryFits f v = isDecimal f || bitsFit f v
 
 -- the last word that a field can start in: more than any record has
 abbrev pub lastReadableWord : ℕ
@@ -95,9 +111,9 @@ readable f =
     (leb 1 (wordOf f) && leb (wordOf f) lastReadableWord)
     && ((leb 1 (bitOf f) && leb (bitOf f) 16) && leb (bitWidth f) widest)
 
--- a decimal field has whole digits
+-- a decimal field has whole digits, and a signed one has a bit
 abbrev pub wholeDigits : Field → Bool
-wholeDigits f = not (isDecimal f) || eqb (bitWidth f % 4) 0
+wholeDigits f = (not (isDecimal f) || eqb (bitWidth f % 4) 0) && (not (isSigned f) || leb 1 (bitWidth f))
 
 -- what the code reads, writes and judges: of a field that is not readable 0, nothing, no digit and no value
 abbrev pub readValue : Field → List ℕ → ℕ

@@ -57,3 +57,8 @@ sound n (f ∷ fs) = (readable f && wholeDigits f) && (leb (start f + bitWidth f
 abbrev pub unnamed : ℕ → List Field → Type 0
 unnamed i [] = Unit
 unnamed i (f ∷ fs) = ((i < start f) ⊎ (start f + bitWidth f ≤ i)) × unnamed i fs
+
+-- no field of the table has a bit of the header from bit `first` up to bit `end`
+abbrev pub noField : ℕ → ℕ → List Field → Bool
+noField first end [] = true
+noField first end (f ∷ fs) = (leb (start f + bitWidth f) first || leb end (start f)) && noField first end fs

@@ -28,7 +28,7 @@ digits-small b = omega (
 )
 
 pub power-small : (b : List ℕ) → valueOf frequencyRatePower b < 8
-power-small b = value-lt frequencyRatePower b refl
+power-small b = value-lt frequencyRatePower b refl refl
 
 -- the greatest size: digits times a power of ten below 8
 abbrev pub mostUnits : ℕ

@@ -20,16 +20,16 @@ digitsBelow = 200000
 unfoldable pub frequencyRateUnits : ℕ → ℕ → ℕ → ℤ
 frequencyRateUnits digits power sign = cond (eqb sign 1) (pos (digits * 10 ^ power)) (negℤ (pos (digits * 10 ^ power)))
 
--- of any bytes
+-- of any bytes; each edition has it in the same words
 unfoldable pub frequencyRateOf : List ℕ → ℤ
 frequencyRateOf b =
     frequencyRateUnits (valueOf frequencyRateDigits b) (valueOf frequencyRatePower b) (valueOf frequencyRateSign b)
 
--- of a record, or its refusal
-unfoldable pub frequencyRateAnswer : List ℕ → Answer ℤ
-frequencyRateAnswer b = unless (recordRefusal b) (pos 0) (frequencyRateOf b)
+-- of a record of the edition n, or its refusal
+unfoldable pub frequencyRateAnswer : ℕ → List ℕ → Answer ℤ
+frequencyRateAnswer n b = unless (recordRefusal n b) (pos 0) (frequencyRateOf b)
 
 -- the number and the value for each case of the code's answer
 abbrev pub shownFrequencyRate : FrequencyRateAnswer → Answer ℤ
 shownFrequencyRate (FrequencyRateAnswer.Units x) = accepted x
-shownFrequencyRate (FrequencyRateAnswer.Refused n) = refused (pos 0) n
+shownFrequencyRate (FrequencyRateAnswer.Refused k) = refused (pos 0) k

@@ -36,7 +36,8 @@ fn frequency_rate_units(digits: u64, power: u64, sign: u64) -> i64
     0 - size
 }
 
-// The frequency rate that any bytes hold: digits that are not decimal count as they stand.
+// The frequency rate that any bytes hold, in words 26 and 27 whichever the edition: digits that are not decimal count as they
+// stand.
 pub fn frequency_rate_of(bytes: &[u8]) -> i64
     ensures { λ r. ⌜ r ≡ frequencyRateOf (now (bytes .entry)) ⌝ }
 {
@@ -47,10 +48,10 @@ pub fn frequency_rate_of(bytes: &[u8]) -> i64
 }
 
 // The frequency rate of a record.
-pub fn frequency_rate(bytes: &[u8]) -> FrequencyRateAnswer
-    ensures { λ r. ⌜ shownFrequencyRate r ≡ frequencyRateAnswer (now (bytes .entry)) ⌝ }
+pub fn frequency_rate(edition: u64, bytes: &[u8]) -> FrequencyRateAnswer
+    ensures { λ r. ⌜ shownFrequencyRate r ≡ frequencyRateAnswer edition (now (bytes .entry)) ⌝ }
 {
-    let refusal = record::refusal_of(bytes);
+    let refusal = record::refusal_of(edition, bytes);
     if refusal != 0 {
         return FrequencyRateAnswer::Refused(refusal);
     }

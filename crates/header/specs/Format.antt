@@ -1,16 +1,13 @@
--- The editions of the header: each a table of rows, those that every edition has first, then its own. FORMAT, "The record".
--- Bits that no row names are kept.
+-- The rows of a header as a table: those that every edition has first, then its own. FORMAT, "The record". Bits that no row names
+-- are kept.
 use Prim.Native.Nat.{ℕ}
 use mathlib.Core.List.{List, [], _∷_, _++_}
 use Rattle.fields.specs.declared.Field.{Field}
 use Rattle.header.specs.Rows as row
 
--- the bytes of the header, and the number of its fields
-abbrev pub headerBytes : ℕ
-headerBytes = 80
-
+-- the number of a header's values, in every edition
 abbrev pub fieldCount : ℕ
-fieldCount = 46
+fieldCount = 48
 
 -- the rows that every edition has, in the order of the words, eight a part
 abbrev pub common1 : List Field
@@ -38,14 +35,20 @@ common5 =
     row.frequencyRateSign ∷ row.phase1 ∷ row.phase2 ∷ row.selector1 ∷ row.selector2 ∷
     row.selector3 ∷ row.selector4 ∷ row.counterTag ∷ []
 
--- the rows of 1985 alone
+-- the rows of an edition alone; the sample rate and the sync word stand in the same places in each
 abbrev pub own1985 : List Field
 own1985 =
-    row.filter ∷ row.sampleRate ∷ row.sync ∷ row.word39 ∷ row.register1 ∷ row.register2 ∷ []
+    row.filter ∷ row.sampleRate1985 ∷ row.sync1985 ∷ row.word39 ∷ row.register1 ∷ row.register2 ∷
+    row.empty1985 ∷ row.empty1985 ∷ []
 
--- an edition: the common rows and its own
+abbrev pub own1992 : List Field
+own1992 =
+    row.rfConfiguration ∷ row.sampleRate1992 ∷ row.sync1992 ∷ row.rfConfigurationReported ∷
+    row.timeOffsetDays ∷ row.timeOffsetSign ∷ row.timeOffsetSeconds ∷ row.frequencyOffset ∷ []
+
+-- the rows of an edition: the common ones and its own
+abbrev pub common : List Field
+common = common1 ++ (common2 ++ (common3 ++ (common4 ++ common5)))
+
 abbrev pub table : List Field → List Field
 table own = common1 ++ (common2 ++ (common3 ++ (common4 ++ (common5 ++ own))))
-
-abbrev pub fields1985 : List Field
-fields1985 = table own1985

@@ -1,7 +1,7 @@
 -- The rows of the header, each once: its bits in the words of the paper, words and bits counted from 1. A reviewer holds this
 -- page beside the table of words. FORMAT, "The record". A row's value in the bytes b is `valueOf year b`.
 use Rattle.fields.specs.declared.Field.{Field}
-use Rattle.fields.specs.Field.{word_, word_bits_to_, word_bit_until_bit_, bcd}
+use Rattle.fields.specs.Field.{word_, word_bits_to_, word_bit_until_bit_, empty-before-word_, bcd, signed}
 
 -- ## words 1 to 5: flags, numbers of tape and record, length, receivers, spacecraft and station
 
@@ -140,11 +140,11 @@ counterTag = word 35 bit 6 until 36 bit 16
 abbrev pub filter : Field
 filter = word 24 bits 1 to 4
 
-abbrev pub sampleRate : Field
-sampleRate = word 37
+abbrev pub sampleRate1985 : Field
+sampleRate1985 = word 37
 
-abbrev pub sync : Field
-sync = word 38
+abbrev pub sync1985 : Field
+sync1985 = word 38
 
 abbrev pub word39 : Field
 word39 = word 39
@@ -154,3 +154,33 @@ register1 = word 40 bits 1 to 8
 
 abbrev pub register2 : Field
 register2 = word 40 bits 9 to 16
+
+-- its table has two places more than it has fields
+abbrev pub empty1985 : Field
+empty1985 = empty-before-word 41
+
+-- ## own to 1992: the antenna's RF configuration in word 26, as set and as reported, the predict set's offsets, and words 80 and 81
+
+abbrev pub rfConfiguration : Field
+rfConfiguration = word 26 bits 1 to 2
+
+abbrev pub rfConfigurationReported : Field
+rfConfigurationReported = word 26 bits 3 to 4
+
+abbrev pub timeOffsetDays : Field
+timeOffsetDays = word 37 bits 1 to 9
+
+abbrev pub timeOffsetSign : Field
+timeOffsetSign = word 37 bits 15 to 15
+
+abbrev pub timeOffsetSeconds : Field
+timeOffsetSeconds = word 37 bit 16 until 38 bit 16
+
+abbrev pub frequencyOffset : Field
+frequencyOffset = signed (word 39 bit 1 until 41 bit 16)
+
+abbrev pub sampleRate1992 : Field
+sampleRate1992 = word 80
+
+abbrev pub sync1992 : Field
+sync1992 = word 81

@@ -1,15 +1,16 @@
-// Whether the values of a header fit the fields of the table of 1985: refusals 10 and 22 of a writer. FORMAT, "The record",
+// Whether the values of a header fit the fields of an edition's table: refusals 10 and 22 of a writer. FORMAT, "The record",
 // "Refusal numbers".
 ghost use mathlib.Core.Path.{_≡_};
 ghost use Rattle.fields.specs.Field.{binaryFits, decimalFits};
 ghost use Rattle.fields.specs.Table.{allFit};
-ghost use Rattle.header_parts.specs.Parts.{rowsFit};
-ghost use Rattle.header.specs.Format.{common1, common2, common3, common4, common5, own1985, fields1985};
+ghost use Rattle.header_parts.specs.Parts.{cells, rowsFit};
+ghost use Rattle.header.specs.Format.{common1, common2, common3, common4, common5, own1985, own1992, common};
+ghost use Rattle.header.specs.Edition.{editionOf, fieldsOf};
 use header::FIELD_COUNT;
 
-// Whether every decimal value has no more digits than its field.
+// Whether every decimal value has no more digits than its field: they are all among the common rows.
 pub fn decimals_fit(values: [u64; FIELD_COUNT]) -> bool
-    ensures { λ r. ⌜ r ≡ allFit decimalFits fields1985 values ⌝ }
+    ensures { λ r. ⌜ r ≡ allFit decimalFits common (cells 0 40 values) ⌝ }
 {
     let readback = fields::decimal_fits(header::READBACK, values[header::AT_READBACK]);
     let calculated = fields::decimal_fits(header::CALCULATED, values[header::AT_CALCULATED]);
@@ -20,7 +21,7 @@ pub fn decimals_fit(values: [u64; FIELD_COUNT]) -> bool
     readback & (calculated & rate)
 }
 
-// Whether the values of each part have no more bits than their rows' fields, if those are binary, and the rest fits too.
+// Whether the values of each part are ones that their rows' bits can hold, if those are not decimal, and the rest fits too.
 fn fit_common_1(values: [u64; FIELD_COUNT], rest: bool) -> bool
     ensures { λ r. ⌜ r ≡ rowsFit common1 0 values rest ⌝ }
 {
@@ -89,19 +90,43 @@ fn fit_common_5(values: [u64; FIELD_COUNT], rest: bool) -> bool
 fn fit_own_1985(values: [u64; FIELD_COUNT], rest: bool) -> bool
     ensures { λ r. ⌜ r ≡ rowsFit own1985 40 values rest ⌝ }
 {
-    let from_5 = fields::binary_fits(header::REGISTER_2, values[45], rest);
+    let from_7 = fields::binary_fits(header::EMPTY_1985, values[47], rest);
+    let from_6 = fields::binary_fits(header::EMPTY_1985, values[46], from_7);
+    let from_5 = fields::binary_fits(header::REGISTER_2, values[45], from_6);
     let from_4 = fields::binary_fits(header::REGISTER_1, values[44], from_5);
     let from_3 = fields::binary_fits(header::WORD_39, values[43], from_4);
-    let from_2 = fields::binary_fits(header::SYNC, values[42], from_3);
-    let from_1 = fields::binary_fits(header::SAMPLE_RATE, values[41], from_2);
+    let from_2 = fields::binary_fits(header::SYNC_1985, values[42], from_3);
+    let from_1 = fields::binary_fits(header::SAMPLE_RATE_1985, values[41], from_2);
     fields::binary_fits(header::FILTER, values[40], from_1)
 }
 
-// Whether every binary value has no more bits than its field.
-pub fn binaries_fit(values: [u64; FIELD_COUNT]) -> bool
-    ensures { λ r. ⌜ r ≡ allFit binaryFits fields1985 values ⌝ }
+fn fit_own_1992(values: [u64; FIELD_COUNT], rest: bool) -> bool
+    ensures { λ r. ⌜ r ≡ rowsFit own1992 40 values rest ⌝ }
 {
-    let own = fit_own_1985(values, true);
+    let from_7 = fields::binary_fits(header::FREQUENCY_OFFSET, values[47], rest);
+    let from_6 = fields::binary_fits(header::TIME_OFFSET_SECONDS, values[46], from_7);
+    let from_5 = fields::binary_fits(header::TIME_OFFSET_SIGN, values[45], from_6);
+    let from_4 = fields::binary_fits(header::TIME_OFFSET_DAYS, values[44], from_5);
+    let from_3 = fields::binary_fits(header::RF_CONFIGURATION_REPORTED, values[43], from_4);
+    let from_2 = fields::binary_fits(header::SYNC_1992, values[42], from_3);
+    let from_1 = fields::binary_fits(header::SAMPLE_RATE_1992, values[41], from_2);
+    fields::binary_fits(header::RF_CONFIGURATION, values[40], from_1)
+}
+
+fn fit_own(edition: u64, values: [u64; FIELD_COUNT], rest: bool) -> bool
+    ensures { λ r. ⌜ r ≡ rowsFit (editionOf edition .own) 40 values rest ⌝ }
+{
+    if edition == header::EDITION_1992 {
+        return fit_own_1992(values, rest);
+    }
+    fit_own_1985(values, rest)
+}
+
+// Whether every value that is not decimal is one that its field's bits can hold.
+pub fn binaries_fit(edition: u64, values: [u64; FIELD_COUNT]) -> bool
+    ensures { λ r. ⌜ r ≡ allFit binaryFits (fieldsOf edition) values ⌝ }
+{
+    let own = fit_own(edition, values, true);
     let from_5 = fit_common_5(values, own);
     let from_4 = fit_common_4(values, from_5);
     let from_3 = fit_common_3(values, from_4);

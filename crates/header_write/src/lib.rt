@@ -1,9 +1,10 @@
-// The values of a header, written by the table of 1985. FORMAT, "The record". As in reading, every row is named: of
+// The values of a header, written by the table of an edition. FORMAT, "The record". As in reading, every row is named: of
 // a literal row the compiler makes a few instructions, and of one from a table a call.
 ghost use mathlib.Core.Path.{_≡_};
 ghost use Rattle.fields.specs.Table.{writeAll};
 ghost use Rattle.header_parts.specs.Parts.{cells};
-ghost use Rattle.header.specs.Format.{common1, common2, common3, common4, common5, own1985, fields1985};
+ghost use Rattle.header.specs.Format.{common1, common2, common3, common4, common5, own1985, own1992};
+ghost use Rattle.header.specs.Edition.{editionOf, fieldsOf};
 use header::FIELD_COUNT;
 
 // The values of each part go into its rows.
@@ -73,24 +74,49 @@ fn write_common_5(bytes: &mut [u8], values: [u64; FIELD_COUNT])
 }
 
 fn write_own_1985(bytes: &mut [u8], values: [u64; FIELD_COUNT])
-    ensures { λ _. ⌜ now (bytes .exit) ≡ writeAll own1985 (cells 40 6 values) (now (bytes .entry)) ⌝ }
+    ensures { λ _. ⌜ now (bytes .exit) ≡ writeAll own1985 (cells 40 8 values) (now (bytes .entry)) ⌝ }
 {
     fields::write_field(bytes, header::FILTER, values[40]);
-    fields::write_field(bytes, header::SAMPLE_RATE, values[41]);
-    fields::write_field(bytes, header::SYNC, values[42]);
+    fields::write_field(bytes, header::SAMPLE_RATE_1985, values[41]);
+    fields::write_field(bytes, header::SYNC_1985, values[42]);
     fields::write_field(bytes, header::WORD_39, values[43]);
     fields::write_field(bytes, header::REGISTER_1, values[44]);
     fields::write_field(bytes, header::REGISTER_2, values[45]);
+    fields::write_field(bytes, header::EMPTY_1985, values[46]);
+    fields::write_field(bytes, header::EMPTY_1985, values[47]);
 }
 
-// The values go into their fields; every bit that no field names stays.
-pub fn write_values(bytes: &mut [u8], values: [u64; FIELD_COUNT])
-    ensures { λ _. ⌜ now (bytes .exit) ≡ writeAll fields1985 values (now (bytes .entry)) ⌝ }
+fn write_own_1992(bytes: &mut [u8], values: [u64; FIELD_COUNT])
+    ensures { λ _. ⌜ now (bytes .exit) ≡ writeAll own1992 (cells 40 8 values) (now (bytes .entry)) ⌝ }
+{
+    fields::write_field(bytes, header::RF_CONFIGURATION, values[40]);
+    fields::write_field(bytes, header::SAMPLE_RATE_1992, values[41]);
+    fields::write_field(bytes, header::SYNC_1992, values[42]);
+    fields::write_field(bytes, header::RF_CONFIGURATION_REPORTED, values[43]);
+    fields::write_field(bytes, header::TIME_OFFSET_DAYS, values[44]);
+    fields::write_field(bytes, header::TIME_OFFSET_SIGN, values[45]);
+    fields::write_field(bytes, header::TIME_OFFSET_SECONDS, values[46]);
+    fields::write_field(bytes, header::FREQUENCY_OFFSET, values[47]);
+}
+
+fn write_own(edition: u64, bytes: &mut [u8], values: [u64; FIELD_COUNT])
+    ensures { λ _. ⌜ now (bytes .exit) ≡ writeAll (editionOf edition .own) (cells 40 8 values) (now (bytes .entry)) ⌝ }
+{
+    if edition == header::EDITION_1992 {
+        write_own_1992(bytes, values);
+    } else {
+        write_own_1985(bytes, values);
+    }
+}
+
+// The values go into the edition's fields; every bit that no field names stays.
+pub fn write_values(edition: u64, bytes: &mut [u8], values: [u64; FIELD_COUNT])
+    ensures { λ _. ⌜ now (bytes .exit) ≡ writeAll (fieldsOf edition) values (now (bytes .entry)) ⌝ }
 {
     write_common_1(bytes, values);
     write_common_2(bytes, values);
     write_common_3(bytes, values);
     write_common_4(bytes, values);
     write_common_5(bytes, values);
-    write_own_1985(bytes, values);
+    write_own(edition, bytes, values);
 }

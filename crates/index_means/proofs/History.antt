@@ -12,7 +12,7 @@ use Rattle.answers.specs.Answer.{accepted, unless}
 use Rattle.answers.specs.Refusal.{_when_, first}
 use Rattle.totals.specs.Total.{totalOf}
 use Rattle.index_model.specs.declared.Opening.{Opening}
-use Rattle.index_model.specs.Records.{channelSamples}
+use Rattle.index_model.specs.Records.{Record, channelSamples}
 use Rattle.index_model.specs.Second.{noSecond}
 use Rattle.index_model.specs.Buffers.{Buffers}
 use Rattle.index_model.specs.Opening.{inWindow, openingOf, openRefusal, openAnswer, opened}
@@ -50,7 +50,7 @@ module _ (o : Opening) (L : Ledger) (sound : SoundLedger o L) (s : ℕ) where
       by-test true = λ t. accepted (by-ledger t)
       by-test false = refl
 
-module _ (pattern : List ℕ) (F C R : ℕ) (c : Buffers) (none : openRefusal pattern F C R c ≡ 0) (calls : List Call) (s : ℕ) where
+module _ (pattern : Record) (F C R : ℕ) (c : Buffers) (none : openRefusal pattern F C R c ≡ 0) (calls : List Call) (s : ℕ) where
   abbrev pub ByLedger : Opening → Type 0
   ByLedger o =
       meansAnswer o s (after o calls (opened pattern F C R c)) ≡ ledgerMeansAnswer o (ledgerAfter o calls noRecords) s

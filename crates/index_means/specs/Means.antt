@@ -7,10 +7,11 @@ use lib.Dec.{eqb}
 use lib.IntN.{pos}
 use lib.Ieee.{fin}
 use Rattle.floats.specs.Whole.{quotientOf}
-use Rattle.sample_rates.specs.Rates.{sampleRateOf, samplesPerRecord}
+use Rattle.sample_rates.specs.Rates.{samplesPerRecord}
 use Rattle.answers.specs.Answer.{Answer, unless}
 use Rattle.totals.specs.declared.Total.{Total}
 use Rattle.index_model.specs.declared.Opening.{Opening}
+use Rattle.index_model.specs.Opening.{heldRate}
 use Rattle.index_model.specs.Second.{SecondTotals}
 use Rattle.index_model.specs.Buffers.{Buffers}
 use Rattle.index_model.specs.Calls.{queryAnswer}
@@ -36,7 +37,7 @@ noMeansEach = noMeans ∷ noMeans ∷ noMeans ∷ noMeans ∷ []
 
 -- of a second: its totals over the samples that its records have of each channel
 abbrev pub secondMeans : Opening → SecondTotals → List Means
-secondMeans o s = eachMeans (s .channels) (s .records * samplesPerRecord (sampleRateOf (o .«sample_rate_hz»)))
+secondMeans o s = eachMeans (s .channels) (s .records * samplesPerRecord (heldRate o))
 
 -- what a question about them answers, by what a question about the second does
 abbrev pub meansBy : Opening → Answer SecondTotals → Answer (List Means)

@@ -10,7 +10,7 @@ use lib.Dec.{eqb}
 use lib.ListN.{getD, length}
 use borrow.Author.Tests.{eqb-true, eqb-false}
 use Rattle.index_model.specs.declared.Opening.{Opening}
-use Rattle.index_model.specs.Records.{secondOf}
+use Rattle.index_model.specs.Records.{Record, secondOf}
 use Rattle.index_model.specs.Cells.{width, cell, withBlock, isGreatest, cellLimit, rowWithin, secondFrom}
 use Rattle.index_model.specs.Buffers.{Buffers}
 use Rattle.index_model.specs.Opening.{windowPlace}
@@ -60,7 +60,7 @@ module _ (o : Opening) where
 
   -- ## the ledger with one entry changed
 
-  entry-cases : (L : Ledger) (n : ℕ) (held : Option (List ℕ)) → SoundLedger o L → ((b : List ℕ) → held ≡ some b → Sound o b)
+  entry-cases : (L : Ledger) (n : ℕ) (held : Option Record) → SoundLedger o L → ((b : Record) → held ≡ some b → Sound o b)
       → SoundLedger o (withEntry L n held)
   entry-cases L n held g h m b = by-test (eqb m n)
     where
@@ -82,7 +82,7 @@ module _ (o : Opening) where
           sound = entry-cases L n none (g .sound) (λ b e. absurd (let z : _≡_ {A = ℕ} 0 1 = cc in omega arith));
         }
 
-    pub regular-with : (b : List ℕ) → Sound o b → cellTotal (withEntry L n none) (secondOf b) 0 (R o) < fullCount o
+    pub regular-with : (b : Record) → Sound o b → cellTotal (withEntry L n none) (secondOf b) 0 (R o) < fullCount o
         → Regular (withEntry L n (some b))
     regular-with b h room =
         record {
@@ -124,7 +124,7 @@ module _ (o : Opening) where
         within-is (R o) L (c .rows) (agree .rows-are) (n - 1) s (omega arith) ∙ (λ t. isOf s (L (z t)))
 
     -- and replaced
-    pub rows-after : (held : Option (List ℕ)) → RowsOf (R o) (withEntry L n held) (withBlock (c .rows) (n - 1) (rowFor held))
+    pub rows-after : (held : Option Record) → RowsOf (R o) (withEntry L n held) (withBlock (c .rows) (n - 1) (rowFor held))
     rows-after held i hi j hj = by-test (eqb (suc i) n) refl
       where
         by-test : (t : Bool) → eqb (suc i) n ≡ t → cell (withBlock (c .rows) (n - 1) (rowFor held)) i j
@@ -139,7 +139,7 @@ module _ (o : Opening) where
             ∙ agree .rows-are i hi j hj
 
     -- the second that is left, worked out anew, and every other second as it was
-    pub left-cells : (held : Option (List ℕ)) → Inside o held → (L' : Ledger) → Regular L' → (rows : List ℕ)
+    pub left-cells : (held : Option Record) → Inside o held → (L' : Ledger) → Regular L' → (rows : List ℕ)
         → RowsOf (R o) L' rows
         → (k : ℕ) → k < C o → (j : ℕ) → j < width → cell (leaveFor o rows held (c .seconds)) k j
         ≡ cond (isOf (F o + k) held) (cellTotal L' (F o + k) j (R o)) (cellTotal L (F o + k) j (R o))

@@ -10,7 +10,7 @@ use lib.Dec.{eqb}
 use lib.ListN.{getD, length}
 use borrow.Author.Tests.{eqb-true, eqb-false}
 use Rattle.index_model.specs.declared.Opening.{Opening}
-use Rattle.index_model.specs.Records.{secondOf}
+use Rattle.index_model.specs.Records.{Record, secondOf}
 use Rattle.index_model.specs.Cells.{width, cell, blockAt, withBlock, rowOf, isGreatest, cellLimit, mergeBy, merged}
 use Rattle.index_model.specs.Buffers.{Buffers}
 use Rattle.index_model.specs.Opening.{windowPlace}
@@ -50,7 +50,7 @@ use Rattle.index_model.proofs.Window.{F, C, R}
 
 -- what holds once number n has another entry: the cells are those of the ledger, and no cell changed but those of the row and
 -- of the seconds that the two entries are of
-pub record Changed (o : Opening) (L : Ledger) (n : ℕ) (entry : Option (List ℕ)) (old new : Buffers) : Type 0 where
+pub record Changed (o : Opening) (L : Ledger) (n : ℕ) (entry : Option Record) (old new : Buffers) : Type 0 where
   pub regular : Regular o (withEntry L n entry)
   pub agree : Agree o (withEntry L n entry) new
   pub rows-length : length (new .rows) ≡ length (old .rows)
@@ -62,23 +62,23 @@ pub record Changed (o : Opening) (L : Ledger) (n : ℕ) (entry : Option (List �
 module _ (o : Opening) (L : Ledger) (c : Buffers) (regular : Regular o L) (agree : Agree o L c) (n : ℕ) (p : 0 < n)
     (q : n ≤ R o) where
   -- the rows with the number's entry changed, and the seconds once the old entry has left
-  abbrev rowsWith : Option (List ℕ) → List ℕ
+  abbrev rowsWith : Option Record → List ℕ
   rowsWith held = withBlock (c .rows) (n - 1) (rowFor held)
 
-  abbrev secondsLeft : Option (List ℕ) → List ℕ
+  abbrev secondsLeft : Option Record → List ℕ
   secondsLeft held = leaveFor o (rowsWith held) (L n) (c .seconds)
 
-  left-is : (held : Option (List ℕ)) → leave o (rowsWith held) (cell (c .rows) (n - 1) 0) (cell (c .rows) (n - 1) 3) (c .seconds)
+  left-is : (held : Option Record) → leave o (rowsWith held) (cell (c .rows) (n - 1) 0) (cell (c .rows) (n - 1) 3) (c .seconds)
       ≡ secondsLeft held
   left-is held =
       (λ t. leave o (rowsWith held) (old-row o L c agree n p q 0 (omega arith) t) (old-row o L c agree n p q 3 (omega arith) t)
       (c .seconds))
       ∙ leave-is o (rowsWith held) (L n) (c .seconds) (inside o L regular n p q)
 
-  left-length : (held : Option (List ℕ)) → length (secondsLeft held) ≡ length (c .seconds)
+  left-length : (held : Option Record) → length (secondsLeft held) ≡ length (c .seconds)
   left-length held = length-leave o (rowsWith held) (L n) (c .seconds) (inside o L regular n p q) (agree .seconds-long)
 
-  left-are : (held : Option (List ℕ)) → Regular o (withEntry L n held) → (k : ℕ) → k < C o → (j : ℕ) → j < width
+  left-are : (held : Option Record) → Regular o (withEntry L n held) → (k : ℕ) → k < C o → (j : ℕ) → j < width
       → cell (secondsLeft held) k j
       ≡ cond (isOf (F o + k) (L n)) (cellTotal (withEntry L n held) (F o + k) j (R o)) (cellTotal L (F o + k) j (R o))
   left-are held g =
@@ -86,21 +86,21 @@ module _ (o : Opening) (L : Ledger) (c : Buffers) (regular : Regular o L) (agree
       (rows-after o L c agree n p q held)
 
   -- a second that the new entry is not of is right once the old entry has left
-  settled : (held : Option (List ℕ)) (k j : ℕ) → isOf (F o + k) held ≡ false → (t : Bool) → isOf (F o + k) (L n) ≡ t
+  settled : (held : Option Record) (k j : ℕ) → isOf (F o + k) held ≡ false → (t : Bool) → isOf (F o + k) (L n) ≡ t
       → cond t (cellTotal (withEntry L n held) (F o + k) j (R o)) (cellTotal L (F o + k) j (R o))
       ≡ cellTotal (withEntry L n held) (F o + k) j (R o)
   settled held k j e true et = refl
   settled held k j e false et = sym (stays L n (F o + k) j (R o) held p q et e)
 
-  rows-length : (held : Option (List ℕ)) → length (rowsWith held) ≡ length (c .rows)
+  rows-length : (held : Option Record) → length (rowsWith held) ≡ length (c .rows)
   rows-length held = length-with (c .rows) (n - 1) (rowFor held) (row-fits o L c agree n p q) (row-for-length held)
 
-  rows-frame : (held : Option (List ℕ)) (m : ℕ) → eqb (suc (m / width)) n ≡ false → getD (rowsWith held) m 0 ≡ getD (c .rows) m 0
+  rows-frame : (held : Option Record) (m : ℕ) → eqb (suc (m / width)) n ≡ false → getD (rowsWith held) m 0 ≡ getD (c .rows) m 0
   rows-frame held m e =
       elsewhere (c .rows) (n - 1) (rowFor held) (row-fits o L c agree n p q) (row-for-length held) m
       (λ z. eqb-false (suc (m / width)) n e (omega (arith, z)))
 
-  left-frame : (held : Option (List ℕ)) (m : ℕ) → isOf (F o + m / width) (L n) ≡ false
+  left-frame : (held : Option Record) (m : ℕ) → isOf (F o + m / width) (L n) ≡ false
       → getD (secondsLeft held) m 0 ≡ getD (c .seconds) m 0
   left-frame held m e = leave-frame o (rowsWith held) (L n) (c .seconds) (inside o L regular n p q) (agree .seconds-long) m e
 
@@ -136,7 +136,7 @@ module _ (o : Opening) (L : Ledger) (c : Buffers) (regular : Regular o L) (agree
 
   -- ## put
 
-  module _ (b : List ℕ) (sound : Sound o b) (room : cellTotal (withEntry L n none) (secondOf b) 0 (R o) < fullCount o) where
+  module _ (b : Record) (sound : Sound o b) (room : cellTotal (withEntry L n none) (secondOf b) 0 (R o) < fullCount o) where
     abbrev s : ℕ
     s = secondOf b
 

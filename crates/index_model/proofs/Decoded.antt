@@ -14,7 +14,7 @@ use Rattle.answers.proofs.Refusals.{cond-none, cond-some}
 use Rattle.totals.specs.Total.{sumOf, squaresOf, keptOf, noTotal, totalOf}
 use Rattle.totals.proofs.Samples.{Bytes, bytes-append}
 use Rattle.index_model.specs.declared.Opening.{Opening}
-use Rattle.index_model.specs.Records.{secondOf, hasOrigin, hasError, channelSamples}
+use Rattle.index_model.specs.Records.{Record, secondOf, hasOrigin, hasError, channelSamples}
 use Rattle.index_model.specs.Cells.{width, channelCell, sampleOffset}
 use Rattle.index_model.specs.Calls.{fullCount, leastFrom, greatestFrom, channelShown, totalFrom, keptFrom, secondShown}
 use Rattle.index_model.specs.Ledger.{Ledger, recordIn, recordsOf, countOf, totalsOver, ledgerSecond}
@@ -46,13 +46,13 @@ use Rattle.index_model.proofs.Measures.{
 }
 
 -- every record of a list is sound
-abbrev pub AllSound : Opening → List (List ℕ) → Type 0
+abbrev pub AllSound : Opening → List Record → Type 0
 AllSound o [] = Unit
 AllSound o (b ∷ r) = Sound o b × AllSound o r
 
 -- the records of a second are
 module _ {o : Opening} (L : Ledger) (sound : SoundLedger o L) (s : ℕ) where
-  entry-sound : (r : List (List ℕ)) → AllSound o r → (held : Option (List ℕ)) → ((b : List ℕ) → held ≡ some b → Sound o b)
+  entry-sound : (r : List Record) → AllSound o r → (held : Option Record) → ((b : Record) → held ≡ some b → Sound o b)
       → AllSound o (r ++ recordIn s held)
   entry-sound [] h none k = tt
   entry-sound [] h (some b) k = by-test (eqb (secondOf b) s)
@@ -69,14 +69,14 @@ module _ {o : Opening} (L : Ledger) (sound : SoundLedger o L) (s : ℕ) where
 
 -- ## a channel
 
-joined-signed : (c : ℕ) (r : List (List ℕ)) → Bytes (flatMap (channelSamples c) r)
+joined-signed : (c : ℕ) (r : List Record) → Bytes (flatMap (channelSamples c) r)
 unfolding flatMap
 joined-signed c [] = tt
 joined-signed c (b ∷ r) =
     bytes-append (channelSamples c b) (flatMap (channelSamples c) r) (samples-signed b c) (joined-signed c r)
 
 module _ (o : Opening) (c : ℕ) where
-  pub joined-length : (r : List (List ℕ)) → AllSound o r → length (flatMap (channelSamples c) r) ≡ length r * perRecord o
+  pub joined-length : (r : List Record) → AllSound o r → length (flatMap (channelSamples c) r) ≡ length r * perRecord o
   unfolding flatMap
   joined-length [] h = omega arith
   joined-length (b ∷ r) h =
@@ -89,7 +89,7 @@ module _ (o : Opening) (c : ℕ) where
         joined-length r (h .1),
       )
 
-  joined-some : (b : List ℕ) (r : List (List ℕ)) → Sound o b → 0 < length (flatMap (channelSamples c) (b ∷ r))
+  joined-some : (b : Record) (r : List Record) → Sound o b → 0 < length (flatMap (channelSamples c) (b ∷ r))
   unfolding flatMap
   joined-some b r h =
       omega (
@@ -101,14 +101,14 @@ module _ (o : Opening) (c : ℕ) where
       )
 
   -- what the cells of a second hold for the channel, and the total that they say
-  pub record Holds (r : List (List ℕ)) (second : List ℕ) : Type 0 where
+  pub record Holds (r : List Record) (second : List ℕ) : Type 0 where
     pub records : getD second 0 0 ≡ length r
     pub sum : getD second (channelCell c 0) 0 ≡ sumCode (flatMap (channelSamples c) r)
     pub squares : getD second (channelCell c 1) 0 ≡ squaresOf (flatMap (channelSamples c) r)
     pub least : getD second (channelCell c 2) 0 ≡ topCode leastCode (flatMap (channelSamples c) r)
     pub greatest : getD second (channelCell c 3) 0 ≡ topCode greatestCode (flatMap (channelSamples c) r)
 
-  total-decoded : (r : List (List ℕ)) → AllSound o r → (second : List ℕ) → Holds r second
+  total-decoded : (r : List Record) → AllSound o r → (second : List ℕ) → Holds r second
       → totalFrom (getD second 0 0 * perRecord o) second c ≡ totalOf (flatMap (channelSamples c) r)
   unfolding totalFrom totalOf sumOf squaresOf keptOf flatMap
   total-decoded [] h second e =
@@ -148,14 +148,14 @@ module _ (o : Opening) (L : Ledger) (sound : SoundLedger o L) (s : ℕ) where
   abbrev R : ℕ
   R = o .«highest_number»
 
-  abbrev held : List (List ℕ)
+  abbrev held : List Record
   held = recordsOf L s R
 
   -- its cells over the ledger
   abbrev pub secondCells : List ℕ
   secondCells = tab (λ (j : ℕ). cellTotal L s j R) 0 width
 
-  at : {m : List (List ℕ) → ℕ} (j : ℕ) → j < width → Measures o j m → getD secondCells j 0 ≡ m held
+  at : {m : List Record → ℕ} (j : ℕ) → j < width → Measures o j m → getD secondCells j 0 ≡ m held
   at j h of = getD-tab (λ (j : ℕ). cellTotal L s j R) width j 0 h ∙ measured of L sound s R
 
   channel-holds : (c : ℕ) → 1 ≤ c → c ≤ 4 → Holds o c held secondCells

@@ -6,6 +6,7 @@ use mathlib.Core.Path.{_≡_, sym, subst}
 use mathlib.Core.Bool.{true, false, _||_}
 use mathlib.Core.List.{List}
 use Rattle.answers.specs.Answer.{accepted}
+use Rattle.index_model.specs.Records.{Record}
 use Rattle.index_model.specs.declared.Opening.{Opening}
 use Rattle.index_model.specs.Cells.{blockAt}
 use Rattle.index_model.specs.Buffers.{Buffers}
@@ -31,7 +32,7 @@ pub record Demand3 (o : Opening) (c : Buffers) (calls : List Call) : Type 0 wher
   -- every accepted put or take-out altered only its record's row and the seconds it left and joined; every other call, nothing
   pub alterations : EachAlters o calls noRecords c
 
-module _ (pattern : List ℕ) (F C R : ℕ) (c : Buffers) (none : openRefusal pattern F C R c ≡ 0) (calls : List Call) where
+module _ (pattern : Record) (F C R : ℕ) (c : Buffers) (none : openRefusal pattern F C R c ≡ 0) (calls : List Call) where
   abbrev o : Opening
   o = openingOf pattern F C R
 

@@ -16,7 +16,7 @@ use Rattle.record.specs.Record.{recordRefusal}
 use Rattle.answers.specs.Refusal.{Check, _when_, first, _then_}
 use Rattle.answers.proofs.Refusals.{then-none, then-zero, none-applies}
 use Rattle.index_model.specs.declared.Opening.{Opening}
-use Rattle.index_model.specs.Records.{numberOf, secondOf}
+use Rattle.index_model.specs.Records.{refusalOf, Record, numberOf, secondOf}
 use Rattle.index_model.specs.Second.{noSecond}
 use Rattle.index_model.specs.Cells.{width, cell, blockAt, flag, rowWithin, cellFrom}
 use Rattle.index_model.specs.Buffers.{Buffers}
@@ -65,20 +65,21 @@ leb-same a b c d f g =
 
 module _ (o : Opening) (L : Ledger) where
   -- what an accepted put gives
-  pub record Entering (b : List ℕ) : Type 0 where
+  pub record Entering (b : Record) : Type 0 where
     pub sound : Sound o b
     pub above : 0 < numberOf b
     pub below : numberOf b ≤ R o
     pub room : length (recordsOf (withEntry L (numberOf b) none) (secondOf b) (R o)) < perSecond o
 
-  pub put-accepted : (b : List ℕ) → ledgerInsert o L b ≡ 0 → Entering b
+  pub put-accepted : (b : Record) → ledgerInsert o L b ≡ 0 → Entering b
   unfolding ledgerInsert ledgerFull
   put-accepted b e =
       record {
         sound =
             record {
               accepted = both .0;
-              rate = same-rate o b (at 0);
+              edition = same-rate o b (at 0) .0;
+              rate = same-rate o b (at 0) .1;
               window = not-false (inWindow o (secondOf b)) (at 2);
             };
         above = in-range o (numberOf b) (at 1) .0;
@@ -94,8 +95,8 @@ module _ (o : Opening) (L : Ledger) where
           ∷ 18 when ledgerFull o L (numberOf b) (secondOf b)
           ∷ []
 
-      both : (recordRefusal b ≡ 0) × (first checks ≡ 0)
-      both = then-zero (recordRefusal b) (first checks) e
+      both : (refusalOf b ≡ 0) × (first checks ≡ 0)
+      both = then-zero (refusalOf b) (first checks) e
 
       at : (k : ℕ) → getD checks k (0 when false) .applies ≡ false
       at k = none-applies checks k tt (both .1)
@@ -140,10 +141,10 @@ module _ (o : Opening) (fine : limitsWrong o || heldWrong o ≡ false) (L : Ledg
       own : flag (rowWithin (c .rows) (n - 1) s) ≡ share s 0 (L n)
       own = (λ t. flag (old-within o L c agree n (range .0) (range .1) s t)) ∙ sym (share-count s (L n))
 
-  pub put-judged : (b : List ℕ) → insertRefusal o b c ≡ ledgerInsert o L b
+  pub put-judged : (b : Record) → insertRefusal o b c ≡ ledgerInsert o L b
   unfolding insertRefusal ledgerInsert
   put-judged b =
-      ap (λ (x : ℕ). recordRefusal b then x)
+      ap (λ (x : ℕ). refusalOf b then x)
       (then-none _ _ opening-accepted
       ∙ ap (λ (x : ℕ). cond (otherReel o b) 15 x)
       (by-tests (isOutside o (numberOf b)) refl (not (inWindow o (secondOf b))) refl))
@@ -159,7 +160,7 @@ module _ (o : Opening) (fine : limitsWrong o || heldWrong o ≡ false) (L : Ledg
   unfolding removeRefusal ledgerRemove
   take-judged n = then-none _ _ opening-accepted ∙ by-test (isOutside o n) refl
     where
-      by-entry : (held : Option (List ℕ)) → eqb (getD (rowFor held) 0 0) 0 ≡ not (isHeld held)
+      by-entry : (held : Option Record) → eqb (getD (rowFor held) 0 0) 0 ≡ not (isHeld held)
       by-entry none = refl
       by-entry (some b) = λ t. eqb (row-records b t) 0
 
@@ -210,7 +211,7 @@ module _ (o : Opening) (fine : limitsWrong o || heldWrong o ≡ false) (L : Ledg
       || inWindow o (agree .rows-are m (omega arith) 3 (omega arith) t)))
       ∙ by-entry (L (suc m)) (regular .sound (suc m))
     where
-      by-entry : (held : Option (List ℕ)) → ((b : List ℕ) → held ≡ some b → Sound o b)
+      by-entry : (held : Option Record) → ((b : Record) → held ≡ some b → Sound o b)
           → (eqb (getD (rowFor held) 0 0) 0 || inWindow o (getD (rowFor held) 3 0)) ≡ true
       by-entry none h = refl
       by-entry (some b) h = (λ t. eqb (row-records b t) 0 || inWindow o (row-second b t)) ∙ h b refl .window

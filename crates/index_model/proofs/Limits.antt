@@ -10,11 +10,13 @@ use lib.ListN.{length}
 use borrow.Author.Tests.{eqb-true, eqb-false, ltb-false, le-ltb, not-false}
 use Rattle.lists.proofs.Truth.{left, right, held, or-false}
 use Rattle.fields.specs.Field.{valueOf}
-use Rattle.header.specs.Rows.{sampleRate}
+use Rattle.header.proofs.Sound.{of-editions}
 use Rattle.answers.specs.Refusal.{_when_}
 use Rattle.answers.proofs.Refusals.{none-applies}
 use Rattle.sample_rates.specs.declared.SampleRate.{SampleRate}
-use Rattle.sample_rates.specs.Rates.{rates, lineIn, sampleRateOf, recordsPerSecond}
+use Rattle.sample_rates.specs.Rates.{rates1985, rates1992, lineIn, recordsPerSecond}
+use Rattle.editions.specs.Rates.{sampleRateOf}
+use Rattle.index_model.specs.Records.{Record, rateIn}
 use Rattle.index_model.specs.declared.Opening.{Opening}
 use Rattle.index_model.specs.Cells.{width}
 use Rattle.index_model.specs.Buffers.{Buffers}
@@ -49,11 +51,11 @@ module _ (o : Opening) where
       let z : n ≡ 0 → ⊥ = eqb-false n 0 (t .0) in
       (omega (arith, z), ltb-false (R o) n (t .1))
 
-  pub same-rate : (b : List ℕ) → otherReel o b ≡ false → valueOf sampleRate b ≡ o .«sample_rate_hz»
+  pub same-rate : (b : Record) → otherReel o b ≡ false → (b .edition ≡ o .edition) × (rateIn b ≡ o .«sample_rate_hz»)
   unfolding otherReel
   same-rate b e =
-      eqb-true (valueOf sampleRate b) (o .«sample_rate_hz»)
-      (not-false _ (or-false _ _ (or-false _ _ (or-false _ _ (or-false _ _ (or-false _ _ e .0) .0) .0) .0) .0))
+      let both = or-false _ _ (or-false _ _ (or-false _ _ (or-false _ _ (or-false _ _ (or-false _ _ e .0) .0) .0) .0) .0) in
+      (eqb-true (b .edition) (o .edition) (not-false _ (both .0)), eqb-true (rateIn b) (o .«sample_rate_hz») (not-false _ (both .1)))
 
   module _ (c : Buffers) where
     -- buffers that 14 does not refuse have the cells
@@ -95,7 +97,7 @@ module _ (o : Opening) where
 abbrev pub mostRecords : ℕ
 mostRecords = 50
 
--- the one computed test of the table of rates
+-- the one computed test of a table of rates
 mostIn : List SampleRate → Bool
 mostIn [] = true
 mostIn (l ∷ ls) = leb (recordsPerSecond l) mostRecords && mostIn ls
@@ -112,4 +114,5 @@ line-most (l ∷ ls) hz t = by-test (eqb (l .hz) hz) (line-most ls hz (right (le
 
 pub full-most : (o : Opening) → fullCount o ≤ mostRecords
 unfolding sampleRateOf mostIn
-full-most o = line-most rates _ tt
+full-most o = of-editions (λ e. recordsPerSecond (lineIn (e .rate-lines) (o .«sample_rate_hz»)) ≤ mostRecords) (line-most rates1985 _ tt)
+    (line-most rates1992 _ tt) (o .edition)

@@ -11,7 +11,7 @@ use lib.ListN.{getD, length, length-append}
 use Rattle.totals.specs.Total.{squaresOf}
 use Rattle.totals.proofs.Sums.{squares-append}
 use Rattle.index_model.specs.declared.Opening.{Opening}
-use Rattle.index_model.specs.Records.{secondOf, hasOrigin, hasError, channelSamples}
+use Rattle.index_model.specs.Records.{Record, secondOf, hasOrigin, hasError, channelSamples}
 use Rattle.index_model.specs.Cells.{channelCell, rowOf, flag, isGreatest}
 use Rattle.index_model.specs.Ledger.{Ledger, recordIn, recordsOf, countOf}
 use Rattle.index_model.proofs.Merges.{plainBy, plain-sum}
@@ -21,14 +21,14 @@ use Rattle.index_model.proofs.Codes.{sumCode, sum-code-append, topCode,
 use Rattle.index_model.proofs.Sound.{Sound, SoundLedger, row-codes}
 
 -- m is what cell j measures of a list of records
-pub record Measures (o : Opening) (j : ℕ) (m : List (List ℕ) → ℕ) : Type 0 where
+pub record Measures (o : Opening) (j : ℕ) (m : List Record → ℕ) : Type 0 where
   pub empty : m [] ≡ 0
-  pub append : (r t : List (List ℕ)) → m (r ++ t) ≡ plainBy (isGreatest j) (m r) (m t)
-  pub single : (b : List ℕ) → Sound o b → getD (rowOf b) j 0 ≡ m (b ∷ [])
+  pub append : (r t : List Record) → m (r ++ t) ≡ plainBy (isGreatest j) (m r) (m t)
+  pub single : (b : Record) → Sound o b → getD (rowOf b) j 0 ≡ m (b ∷ [])
 
 -- so it is of the second's records, in the order of their numbers
-module _ {o : Opening} {j : ℕ} {m : List (List ℕ) → ℕ} (of : Measures o j m) (L : Ledger) (sound : SoundLedger o L) (s : ℕ) where
-  share-measured : (held : Option (List ℕ)) → ((b : List ℕ) → held ≡ some b → Sound o b) → share s j held ≡ m (recordIn s held)
+module _ {o : Opening} {j : ℕ} {m : List Record → ℕ} (of : Measures o j m) (L : Ledger) (sound : SoundLedger o L) (s : ℕ) where
+  share-measured : (held : Option Record) → ((b : Record) → held ≡ some b → Sound o b) → share s j held ≡ m (recordIn s held)
   unfolding share
   share-measured none h = sym (of .empty)
   share-measured (some b) h = by-test (eqb (secondOf b) s)
@@ -54,14 +54,14 @@ measures-records o =
       single = λ b h. row-records b;
     }
 
-count-append : (test : List ℕ → Bool) (r t : List (List ℕ)) → countOf test (r ++ t) ≡ countOf test r + countOf test t
+count-append : (test : Record → Bool) (r t : List Record) → countOf test (r ++ t) ≡ countOf test r + countOf test t
 unfolding countOf
 count-append test [] t = omega arith
 count-append test (b ∷ r) t = omega (arith, count-append test r t)
 
 -- a flag that the row has in a cell that is a sum
-measures-flag : (o : Opening) (j : ℕ) (test : List ℕ → Bool) → isGreatest j ≡ false
-    → ((b : List ℕ) → getD (rowOf b) j 0 ≡ flag (test b)) → Measures o j (countOf test)
+measures-flag : (o : Opening) (j : ℕ) (test : Record → Bool) → isGreatest j ≡ false
+    → ((b : Record) → getD (rowOf b) j 0 ≡ flag (test b)) → Measures o j (countOf test)
 unfolding countOf
 measures-flag o j test g is =
     record {
@@ -80,12 +80,12 @@ measures-errors o = measures-flag o 2 hasError refl row-error
 
 -- ## the channels
 
-flat-append : (f : List ℕ → List ℤ) (r t : List (List ℕ)) → flatMap f (r ++ t) ≡ flatMap f r ++ flatMap f t
+flat-append : (f : Record → List ℤ) (r t : List Record) → flatMap f (r ++ t) ≡ flatMap f r ++ flatMap f t
 unfolding flatMap
 flat-append f [] t = refl
 flat-append f (b ∷ r) t = ap (λ (l : List ℤ). f b ++ l) (flat-append f r t) ∙ sym (append-assoc (f b) (flatMap f r) (flatMap f t))
 
-flat-one : (f : List ℕ → List ℤ) (b : List ℕ) → flatMap f (b ∷ []) ≡ f b
+flat-one : (f : Record → List ℤ) (b : Record) → flatMap f (b ∷ []) ≡ f b
 unfolding flatMap
 flat-one f b = append-nil (f b)
 
@@ -93,7 +93,7 @@ module _ (o : Opening) (c : ℕ) (p : 1 ≤ c) (q : c ≤ 4) where
   -- a code of samples that cell i of the channel's four holds
   measures-code : (i : ℕ) → i < 4 → (code : List ℤ → ℕ) → code [] ≡ 0
       → ((l k : List ℤ) → code (l ++ k) ≡ plainBy (ltb 1 i) (code l) (code k)) → ((l : List ℤ) → getD (codes l) i 0 ≡ code l)
-      → Measures o (channelCell c i) (λ (r : List (List ℕ)). code (flatMap (channelSamples c) r))
+      → Measures o (channelCell c i) (λ (r : List Record). code (flatMap (channelSamples c) r))
   unfolding flatMap
   measures-code i h code zeroes joined is =
       record {
@@ -108,19 +108,19 @@ module _ (o : Opening) (c : ℕ) (p : 1 ≤ c) (q : c ≤ 4) where
             λ b s. row-codes b (s .accepted) c i p q h ∙ is (channelSamples c b) ∙ ap code (sym (flat-one (channelSamples c) b));
       }
 
-  pub measures-sum : Measures o (channelCell c 0) (λ (r : List (List ℕ)). sumCode (flatMap (channelSamples c) r))
+  pub measures-sum : Measures o (channelCell c 0) (λ (r : List Record). sumCode (flatMap (channelSamples c) r))
   unfolding plainBy sumCode
   measures-sum = measures-code 0 (omega arith) sumCode refl sum-code-append (λ l. refl)
 
-  pub measures-squares : Measures o (channelCell c 1) (λ (r : List (List ℕ)). squaresOf (flatMap (channelSamples c) r))
+  pub measures-squares : Measures o (channelCell c 1) (λ (r : List Record). squaresOf (flatMap (channelSamples c) r))
   unfolding plainBy squaresOf
   measures-squares = measures-code 1 (omega arith) squaresOf refl squares-append (λ l. refl)
 
-  pub measures-least : Measures o (channelCell c 2) (λ (r : List (List ℕ)). topCode leastCode (flatMap (channelSamples c) r))
+  pub measures-least : Measures o (channelCell c 2) (λ (r : List Record). topCode leastCode (flatMap (channelSamples c) r))
   unfolding plainBy topCode
   measures-least = measures-code 2 (omega arith) (topCode leastCode) refl (top-append leastCode) (λ l. refl)
 
   pub measures-greatest : Measures o (channelCell c 3)
-      (λ (r : List (List ℕ)). topCode greatestCode (flatMap (channelSamples c) r))
+      (λ (r : List Record). topCode greatestCode (flatMap (channelSamples c) r))
   unfolding plainBy topCode
   measures-greatest = measures-code 3 (omega arith) (topCode greatestCode) refl (top-append greatestCode) (λ l. refl)

@@ -10,7 +10,7 @@ use Rattle.lists.proofs.Fill.{over-low, length-over}
 use Rattle.lists.proofs.Truth.{or-false}
 use Rattle.fields.specs.Table.{allDigitsGood}
 use Rattle.fields.specs.Field.{valueOf}
-use Rattle.header.specs.Format.{fields1985}
+use Rattle.header.specs.Edition.{fieldsOf}
 use Rattle.header.specs.Rows.{tapeNumber, recordNumber}
 use Rattle.checks.specs.declared.Judged.{Judged}
 use Rattle.checks.specs.Checks.{checks, judgedOf}
@@ -18,6 +18,7 @@ use Rattle.answers.specs.Answer.{Answer}
 use Rattle.record.specs.Record.{recordRefusal}
 use Rattle.answers.specs.Refusal.{_when_, first}
 use Rattle.answers.proofs.Refusals.{noCheck, none-applies, then-zero, unless-none, cond-none}
+use Rattle.index_model.specs.Records.{Record, refusalOf}
 use Rattle.index_model.specs.declared.Opening.{Opening}
 use Rattle.index_model.specs.Cells.{width, cell, isGreatest}
 use Rattle.index_model.specs.Buffers.{Buffers}
@@ -51,25 +52,31 @@ regular-empty o =
       sound = λ n b e. absurd (let z : _≡_ {A = ℕ} 0 1 = cc in omega arith);
     }
 
--- the held values of an accepted pattern pass 5, 7 and 8
-held-fine : (pattern : List ℕ) (F C R : ℕ) → recordRefusal pattern ≡ 0 → heldWrong (openingOf pattern F C R) ≡ false
+-- the edition and the held values of an accepted pattern pass 25, 5, 7 and 8
+held-fine : (pattern : Record) (F C R : ℕ) → refusalOf pattern ≡ 0 → heldWrong (openingOf pattern F C R) ≡ false
 unfolding recordRefusal heldWrong
 held-fine pattern F C R e =
-    λ t. at 4 t || or-false (eqb (valueOf tapeNumber pattern) 0) (eqb (valueOf recordNumber pattern) 0) (at 6) .0 t || at 7 t
+    λ t. at 0 t || at 5 t || or-false (eqb (valueOf tapeNumber b) 0) (eqb (valueOf recordNumber b) 0) (at 7) .0 t || at 8 t
   where
+    n : ℕ
+    n = pattern .edition
+
+    b : List ℕ
+    b = pattern .bytes
+
     judged : Judged
-    judged = judgedOf (length pattern) (λ f. valueOf f pattern) (allDigitsGood fields1985 pattern)
+    judged = judgedOf n (length b) (λ f. valueOf f b) (allDigitsGood (fieldsOf n) b)
 
-    at : (k : ℕ) → getD (checks judged) k noCheck .applies ≡ false
-    at k = none-applies (checks judged) k tt e
+    at : (k : ℕ) → getD (checks n judged) k noCheck .applies ≡ false
+    at k = none-applies (checks n judged) k tt e
 
-module _ (pattern : List ℕ) (F C R : ℕ) (c : Buffers) (e : openRefusal pattern F C R c ≡ 0) where
+module _ (pattern : Record) (F C R : ℕ) (c : Buffers) (e : openRefusal pattern F C R c ≡ 0) where
   abbrev o : Opening
   o = openingOf pattern F C R
 
-  limits : (recordRefusal pattern ≡ 0) × (first (13 when limitsWrong o ∷ 14 when tooSmall o c ∷ []) ≡ 0)
+  limits : (refusalOf pattern ≡ 0) × (first (13 when limitsWrong o ∷ 14 when tooSmall o c ∷ []) ≡ 0)
   unfolding openRefusal
-  limits = then-zero (recordRefusal pattern) (first (13 when limitsWrong o ∷ 14 when tooSmall o c ∷ [])) e
+  limits = then-zero (refusalOf pattern) (first (13 when limitsWrong o ∷ 14 when tooSmall o c ∷ [])) e
 
   at : (k : ℕ) → getD (13 when limitsWrong o ∷ 14 when tooSmall o c ∷ []) k noCheck .applies ≡ false
   at k = none-applies (13 when limitsWrong o ∷ 14 when tooSmall o c ∷ []) k tt (limits .1)

@@ -15,7 +15,7 @@ use Rattle.lists.proofs.Truth.{and-true}
 use Rattle.channels.specs.Sample.{samplesOf}
 use Rattle.totals.specs.declared.Total.{Total}
 use Rattle.totals.specs.Total.{noTotal, totalOf, totalsOf}
-use Rattle.index_model.specs.Records.{secondOf, hasOrigin, hasError}
+use Rattle.index_model.specs.Records.{stretchIn, Record, secondOf, hasOrigin, hasError}
 use Rattle.record.specs.Stretch.{stretchOf}
 use Rattle.index_model.specs.Cells.{
   width,
@@ -30,11 +30,11 @@ use Rattle.index_model.specs.Cells.{
 }
 
 -- the row of what a number has
-abbrev pub rowFor : Option (List ℕ) → List ℕ
+abbrev pub rowFor : Option Record → List ℕ
 rowFor none = noRow
 rowFor (some b) = rowOf b
 
-module _ (b : List ℕ) where
+module _ (b : Record) where
   pub row-length : length (rowOf b) ≡ width
   unfolding rowOf totalsOf
   row-length = refl
@@ -76,16 +76,16 @@ of-four f d (suc (suc (suc zero))) h = refl
 of-four f d (suc (suc (suc (suc k)))) h = absurd (let z : ⊥ = omega arith in z)
 
 -- the four cells of a channel (1 to 4)
-pub row-channel : (b : List ℕ) (c i : ℕ) → 1 ≤ c → c ≤ 4 → i < 4
+pub row-channel : (b : Record) (c i : ℕ) → 1 ≤ c → c ≤ 4 → i < 4
     → getD (rowOf b) (channelCell c i) 0
-    ≡ getD (channelCells (samplesIn (stretchOf b)) (totalOf (samplesOf (stretchOf b) c (samplesIn (stretchOf b))))) i 0
+    ≡ getD (channelCells (samplesIn (stretchIn b)) (totalOf (samplesOf (stretchIn b) c (samplesIn (stretchIn b))))) i 0
 unfolding rowOf totalsOf
 row-channel b zero i p q r = absurd (let z : ⊥ = omega arith in z)
 row-channel b (suc k) i p q r =
     ap (λ (a : ℕ). getD (rowOf b) a 0) (let z : 4 * suc k + i ≡ suc (suc (suc (suc (4 * k + i)))) = omega arith in z)
-    ∙ at-channel (samplesIn (stretchOf b)) (totalsOf (stretchOf b) (samplesIn (stretchOf b))) k i (omega arith) r
-    ∙ ap (λ (t : Total). getD (channelCells (samplesIn (stretchOf b)) t) i 0)
-    (of-four (λ (c : ℕ). totalOf (samplesOf (stretchOf b) c (samplesIn (stretchOf b)))) noTotal k (omega arith))
+    ∙ at-channel (samplesIn (stretchIn b)) (totalsOf (stretchIn b) (samplesIn (stretchIn b))) k i (omega arith) r
+    ∙ ap (λ (t : Total). getD (channelCells (samplesIn (stretchIn b)) t) i 0)
+    (of-four (λ (c : ℕ). totalOf (samplesOf (stretchIn b) c (samplesIn (stretchIn b)))) noTotal k (omega arith))
 
 -- the first two of a channel's four are sums, the others hold the greatest
 pub channel-kind : (c i : ℕ) → 1 ≤ c → i < 4 → isGreatest (channelCell c i) ≡ ltb 1 i
@@ -99,6 +99,6 @@ channel-kind c i p q =
 pub no-row : (j : ℕ) → j < width → getD noRow j 0 ≡ 0
 no-row j h = getD-tab (λ (k : ℕ). 0) width j 0 h
 
-pub row-for-length : (held : Option (List ℕ)) → length (rowFor held) ≡ width
+pub row-for-length : (held : Option Record) → length (rowFor held) ≡ width
 row-for-length none = refl
 row-for-length (some b) = row-length b

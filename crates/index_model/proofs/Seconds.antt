@@ -12,7 +12,7 @@ use borrow.Author.Tests.{eqb-false}
 use Rattle.lists.specs.Fill.{tab}
 use Rattle.lists.proofs.Fill.{length-tab, getD-tab, tab-ext}
 use Rattle.index_model.specs.declared.Opening.{Opening}
-use Rattle.index_model.specs.Records.{secondOf}
+use Rattle.index_model.specs.Records.{Record, secondOf}
 use Rattle.index_model.specs.Cells.{
   width,
   cell,
@@ -73,15 +73,15 @@ second-next rows s i = by-test (rowWithin rows i s)
 
 module _ (o : Opening) where
   -- every entry of a number is of a second of the window
-  abbrev pub Inside : Option (List ℕ) → Type 0
-  Inside held = (b : List ℕ) → held ≡ some b → inWindow o (secondOf b) ≡ true
+  abbrev pub Inside : Option Record → Type 0
+  Inside held = (b : Record) → held ≡ some b → inWindow o (secondOf b) ≡ true
 
   -- leaving, by what the number had
-  abbrev pub leaveFor : List ℕ → Option (List ℕ) → List ℕ → List ℕ
+  abbrev pub leaveFor : List ℕ → Option Record → List ℕ → List ℕ
   leaveFor rows none seconds = seconds
   leaveFor rows (some b) seconds = withBlock seconds (windowPlace o (secondOf b)) (secondFrom rows (secondOf b) (R o))
 
-  pub leave-is : (rows : List ℕ) (held : Option (List ℕ)) (seconds : List ℕ) → Inside held
+  pub leave-is : (rows : List ℕ) (held : Option Record) (seconds : List ℕ) → Inside held
       → leave o rows (getD (rowFor held) 0 0) (getD (rowFor held) 3 0) seconds ≡ leaveFor rows held seconds
   unfolding leave
   leave-is rows none seconds h = refl
@@ -98,14 +98,14 @@ module _ (o : Opening) where
   pub other-place : (s m : ℕ) → inWindow o s ≡ true → eqb s (F o + m / width) ≡ false → m / width ≡ windowPlace o s → ⊥
   other-place s m e ne z = let w = in-window o s e in eqb-false s (F o + m / width) ne (omega (arith, w .0, z))
 
-  pub length-leave : (rows : List ℕ) (held : Option (List ℕ)) (seconds : List ℕ) → Inside held → width * C o ≤ length seconds
+  pub length-leave : (rows : List ℕ) (held : Option Record) (seconds : List ℕ) → Inside held → width * C o ≤ length seconds
       → length (leaveFor rows held seconds) ≡ length seconds
   length-leave rows none seconds h long = refl
   length-leave rows (some b) seconds h long =
       length-with seconds (windowPlace o (secondOf b)) _ (fits (secondOf b) seconds (h b refl) long)
       (length-second rows (secondOf b) (R o))
 
-  pub leave-frame : (rows : List ℕ) (held : Option (List ℕ)) (seconds : List ℕ) → Inside held → width * C o ≤ length seconds
+  pub leave-frame : (rows : List ℕ) (held : Option Record) (seconds : List ℕ) → Inside held → width * C o ≤ length seconds
       → (m : ℕ) → isOf (F o + m / width) held ≡ false → getD (leaveFor rows held seconds) m 0 ≡ getD seconds m 0
   leave-frame rows none seconds h long m ne = refl
   leave-frame rows (some b) seconds h long m ne =

@@ -10,7 +10,7 @@ use lib.Dec.{eqb}
 use borrow.Author.Tests.{eqb-true}
 use Rattle.lists.proofs.Truth.{or-false}
 use Rattle.index_model.specs.declared.Opening.{Opening}
-use Rattle.index_model.specs.Records.{numberOf, secondOf}
+use Rattle.index_model.specs.Records.{Record, numberOf, secondOf}
 use Rattle.index_model.specs.Cells.{width, rowOf}
 use Rattle.index_model.specs.Buffers.{Buffers}
 use Rattle.index_model.specs.Opening.{limitsWrong, heldWrong}
@@ -76,7 +76,7 @@ second-fails : (a b : Bool) → a ≡ true → a && b ≡ false → b ≡ false
 second-fails a b e h = (λ t. sym e t && b) ∙ h
 
 -- an accepted call, once its change is made
-changed-steps : (o : Opening) (L : Ledger) (call : Call) (entry : Option (List ℕ)) (c c' : Buffers) → isAccepted o L call ≡ true
+changed-steps : (o : Opening) (L : Ledger) (call : Call) (entry : Option Record) (c c' : Buffers) → isAccepted o L call ≡ true
     → ((k : ℕ) → joins call k ≡ isOf k entry) → Changed o L (callNumber call) entry c c'
     → Stepped o L call (withEntry L (callNumber call) entry) c c'
 unfolding altersRow altersSecond
@@ -102,13 +102,13 @@ changed-steps o L call entry c c' e joined changed =
 module _ (o : Opening) (fine : limitsWrong o || heldWrong o ≡ false) where
   module _ (L : Ledger) (c : Buffers) (regular : Regular o L) (agree : Agree o L c) where
     -- the buffers once the record b is put under its number, and once number n is taken out
-    abbrev put : List ℕ → Buffers
+    abbrev put : Record → Buffers
     put b = rowInserted o (numberOf b - 1) (secondOf b) (rowOf b) c
 
     abbrev taken : ℕ → Buffers
     taken n = rowRemoved o (n - 1) c
 
-    put-done : (b : List ℕ) → eqb (ledgerInsert o L b) 0 ≡ true
+    put-done : (b : Record) → eqb (ledgerInsert o L b) 0 ≡ true
         → Stepped o L (insert b) (withEntry L (numberOf b) (some b)) c (put b)
     unfolding isAccepted
     put-done b e =

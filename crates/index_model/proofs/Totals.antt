@@ -10,7 +10,7 @@ use lib.Dec.{eqb}
 use lib.ListN.{getD}
 use borrow.Author.Tests.{eqb-true, eqb-false, ne-eqb}
 use Rattle.sample_rates.specs.Rates.{mostSamples}
-use Rattle.index_model.specs.Records.{secondOf}
+use Rattle.index_model.specs.Records.{Record, secondOf}
 use Rattle.index_model.specs.Cells.{
   width,
   sampleOffset,
@@ -30,7 +30,7 @@ use Rattle.index_model.proofs.Limits.{mostRecords}
 use Rattle.index_model.proofs.Rows.{rowFor, row-records, row-second}
 
 -- what a number's entry gives to cell j of second s
-unfoldable pub share : ℕ → ℕ → Option (List ℕ) → ℕ
+unfoldable pub share : ℕ → ℕ → Option Record → ℕ
 share s j none = 0
 share s j (some b) = cond (eqb (secondOf b) s) (getD (rowOf b) j 0) 0
 
@@ -41,7 +41,7 @@ cellTotal L s j (suc n) = plainBy (isGreatest j) (cellTotal L s j n) (share s j 
 
 -- ## one number's entry
 
-module _ (L : Ledger) (n : ℕ) (held : Option (List ℕ)) (s j : ℕ) where
+module _ (L : Ledger) (n : ℕ) (held : Option Record) (s j : ℕ) where
   -- numbers below it do not see it
   below : (m : ℕ) → m < n → cellTotal (withEntry L n held) s j m ≡ cellTotal (withEntry L n none) s j m
   unfolding cellTotal
@@ -87,22 +87,22 @@ pub own-share : (L : Ledger) (n s j m : ℕ) → 0 < n → n ≤ m
     → cellTotal L s j m ≡ plainBy (isGreatest j) (cellTotal (withEntry L n none) s j m) (share s j (L n))
 own-share L n s j m p q = sym (λ t. cellTotal (λ (k : ℕ). itself L n k t) s j m) ∙ one-share L n (L n) s j m p q
 
-pub share-none : (s j : ℕ) (held : Option (List ℕ)) → isOf s held ≡ false → share s j held ≡ 0
+pub share-none : (s j : ℕ) (held : Option Record) → isOf s held ≡ false → share s j held ≡ 0
 unfolding share
 share-none s j none e = refl
 share-none s j (some b) e = rw e refl
 
-pub share-all : (s j : ℕ) (b : List ℕ) → eqb (secondOf b) s ≡ true → share s j (some b) ≡ getD (rowOf b) j 0
+pub share-all : (s j : ℕ) (b : Record) → eqb (secondOf b) s ≡ true → share s j (some b) ≡ getD (rowOf b) j 0
 unfolding share
 share-all s j b e = rw e refl
 
-pub share-count : (s : ℕ) (held : Option (List ℕ)) → share s 0 held ≡ flag (isOf s held)
+pub share-count : (s : ℕ) (held : Option Record) → share s 0 held ≡ flag (isOf s held)
 unfolding share
 share-count s none = refl
 share-count s (some b) = λ t. cond (eqb (secondOf b) s) (row-records b t) 0
 
 -- a changed entry leaves the totals of a second that neither the old nor the new entry is of
-pub stays : (L : Ledger) (n s j m : ℕ) (held : Option (List ℕ)) → 0 < n → n ≤ m → isOf s (L n) ≡ false → isOf s held ≡ false
+pub stays : (L : Ledger) (n s j m : ℕ) (held : Option Record) → 0 < n → n ≤ m → isOf s (L n) ≡ false → isOf s held ≡ false
     → cellTotal (withEntry L n held) s j m ≡ cellTotal L s j m
 stays L n s j m held p q a b =
     one-share L n held s j m p q
@@ -121,9 +121,9 @@ abbrev pub rowLimit : ℕ
 rowLimit = sampleOffset * sampleOffset * mostSamples
 
 abbrev pub SmallRows : Ledger → Type 0
-SmallRows L = (n : ℕ) (b : List ℕ) → L n ≡ some b → (j : ℕ) → getD (rowOf b) j 0 ≤ rowLimit
+SmallRows L = (n : ℕ) (b : Record) → L n ≡ some b → (j : ℕ) → getD (rowOf b) j 0 ≤ rowLimit
 
-share-small : (s j : ℕ) (held : Option (List ℕ)) → ((b : List ℕ) → held ≡ some b → getD (rowOf b) j 0 ≤ rowLimit)
+share-small : (s j : ℕ) (held : Option Record) → ((b : Record) → held ≡ some b → getD (rowOf b) j 0 ≤ rowLimit)
     → share s j held ≤ rowLimit * share s 0 held
 unfolding share
 share-small s j none small = omega arith
@@ -162,11 +162,11 @@ module _ (R : ℕ) (L : Ledger) (rows : List ℕ) (are : RowsOf R L rows) where
   unfolding rowWithin
   within-is i s h = (λ t. not (eqb (are i h 0 (omega arith) t) 0) && eqb (are i h 3 (omega arith) t) s) ∙ by-entry (L (suc i))
     where
-      by-entry : (held : Option (List ℕ)) → (not (eqb (getD (rowFor held) 0 0) 0) && eqb (getD (rowFor held) 3 0) s) ≡ isOf s held
+      by-entry : (held : Option Record) → (not (eqb (getD (rowFor held) 0 0) 0) && eqb (getD (rowFor held) 3 0) s) ≡ isOf s held
       by-entry none = refl
       by-entry (some b) = λ t. not (eqb (row-records b t) 0) && eqb (row-second b t) s
 
-  one-row : (s j a : ℕ) (held : Option (List ℕ)) → (isGreatest j ≡ false → plainBy (isGreatest j) a (share s j held) < cellLimit)
+  one-row : (s j a : ℕ) (held : Option Record) → (isGreatest j ≡ false → plainBy (isGreatest j) a (share s j held) < cellLimit)
       → mergeIf (isOf s held) j a (getD (rowFor held) j 0) ≡ plainBy (isGreatest j) a (share s j held)
   unfolding share
   one-row s j a none f = sym (plain-none (isGreatest j) a)

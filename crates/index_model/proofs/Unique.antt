@@ -13,7 +13,7 @@ use lib.Seq.{ext-getD}
 use borrow.Author.Tests.{eqb-true, ne-eqb}
 use Rattle.lists.proofs.Order.{le-or-lt}
 use Rattle.index_model.specs.declared.Opening.{Opening}
-use Rattle.index_model.specs.Records.{secondOf}
+use Rattle.index_model.specs.Records.{Record, secondOf}
 use Rattle.index_model.specs.Cells.{width, cell}
 use Rattle.index_model.specs.Buffers.{Buffers}
 use Rattle.index_model.specs.Opening.{limitsWrong, heldWrong}
@@ -58,7 +58,7 @@ module _ (o : Opening) (L : Ledger) (regular : Regular o L) where
   number-below (query s) e = absurd (true≢false (sym e))
   number-below consistency e = absurd (true≢false (sym e))
 
-  none-beyond : (held : Option (List ℕ)) → Inside o held → (k : ℕ) → o .«second_count» ≤ k
+  none-beyond : (held : Option Record) → Inside o held → (k : ℕ) → o .«second_count» ≤ k
       → isOf (o .«first_second» + k) held ≡ false
   none-beyond none h k q = refl
   none-beyond (some b) h k q =

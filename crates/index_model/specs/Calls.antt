@@ -8,14 +8,13 @@ use lib.IntN.{ℤ, pos, _-ℤ_}
 use lib.ListN.{getD}
 use Rattle.lists.specs.Fill.{tab}
 use Rattle.channels.specs.Sample.{signedOf}
-use Rattle.sample_rates.specs.Rates.{sampleRateOf, recordsPerSecond, samplesPerRecord}
+use Rattle.sample_rates.specs.Rates.{recordsPerSecond, samplesPerRecord}
 use Rattle.answers.specs.Answer.{Answer, unless}
-use Rattle.record.specs.Record.{recordRefusal}
 use Rattle.answers.specs.Refusal.{_when_, first, _then_}
 use Rattle.totals.specs.declared.Total.{Total}
 use Rattle.totals.specs.Total.{noTotal}
 use Rattle.index_model.specs.declared.Opening.{Opening}
-use Rattle.index_model.specs.Records.{numberOf, secondOf}
+use Rattle.index_model.specs.Records.{Record, refusalOf, numberOf, secondOf}
 use Rattle.index_model.specs.Second.{SecondTotals, noSecond}
 use Rattle.index_model.specs.Cells.{
   width,
@@ -34,11 +33,11 @@ use Rattle.index_model.specs.Cells.{
   secondFrom,
 }
 use Rattle.index_model.specs.Buffers.{Buffers}
-use Rattle.index_model.specs.Opening.{openingRefusal, otherReel, isOutside, inWindow, windowPlace}
+use Rattle.index_model.specs.Opening.{heldRate, openingRefusal, otherReel, isOutside, inWindow, windowPlace}
 
 -- L: the records of a full second
 abbrev pub fullCount : Opening → ℕ
-fullCount o = recordsPerSecond (sampleRateOf (o .«sample_rate_hz»))
+fullCount o = recordsPerSecond (heldRate o)
 
 -- ## what a changed row does to the seconds
 
@@ -76,10 +75,10 @@ rowRemoved o i c = record { rows = withBlock (c .rows) i noRow; seconds = second
 unfoldable pub isFull : Opening → ℕ → ℕ → Buffers → Bool
 isFull o i s c = leb (fullCount o + flag (rowWithin (c .rows) i s)) (cell (c .seconds) (windowPlace o s) 0)
 
-module _ (o : Opening) (b : List ℕ) (c : Buffers) where
+module _ (o : Opening) (b : Record) (c : Buffers) where
   unfoldable pub insertRefusal : ℕ
   insertRefusal =
-      recordRefusal b
+      refusalOf b
       then openingRefusal o c
       then first
       (15 when otherReel o b
@@ -137,7 +136,7 @@ secondShown o second =
       records = getD second 0 0;
       origins = getD second 1 0;
       errors = getD second 2 0;
-      channels = tab (totalFrom (getD second 0 0 * samplesPerRecord (sampleRateOf (o .«sample_rate_hz»))) second) 1 4;
+      channels = tab (totalFrom (getD second 0 0 * samplesPerRecord (heldRate o)) second) 1 4;
       kept = keptFrom (fullCount o) second;
     }
 

@@ -15,8 +15,7 @@ use lib.ListN.{length, getD, take, drop}
 use Rattle.lists.specs.Fill.{tab}
 use Rattle.totals.specs.declared.Total.{Total}
 use Rattle.totals.specs.Total.{totalsOf}
-use Rattle.index_model.specs.Records.{secondOf, hasOrigin, hasError}
-use Rattle.record.specs.Stretch.{stretchOf}
+use Rattle.index_model.specs.Records.{Record, secondOf, hasOrigin, hasError, stretchIn}
 
 -- cells in a row, and in a second
 abbrev pub width : ℕ
@@ -76,8 +75,8 @@ samplesIn stretch = length stretch / 4
 abbrev pub stretchCells : List ℕ → List ℕ
 stretchCells stretch = allChannelCells (samplesIn stretch) (totalsOf stretch (samplesIn stretch))
 
-unfoldable pub rowOf : List ℕ → List ℕ
-rowOf b = 1 ∷ flag (hasOrigin b) ∷ flag (hasError b) ∷ secondOf b ∷ stretchCells (stretchOf b)
+unfoldable pub rowOf : Record → List ℕ
+rowOf b = 1 ∷ flag (hasOrigin b) ∷ flag (hasError b) ∷ secondOf b ∷ stretchCells (stretchIn b)
 
 -- the row of a number that is not held
 abbrev pub noRow : List ℕ

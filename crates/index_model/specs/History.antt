@@ -8,7 +8,7 @@ use mathlib.Core.Option.{Option, none, some}
 use lib.Dec.{eqb}
 use lib.ListN.{length, getD}
 use Rattle.index_model.specs.declared.Opening.{Opening}
-use Rattle.index_model.specs.Records.{numberOf, secondOf}
+use Rattle.index_model.specs.Records.{Record, numberOf, secondOf}
 use Rattle.index_model.specs.Cells.{width}
 use Rattle.index_model.specs.Buffers.{Buffers}
 use Rattle.index_model.specs.Calls.{insertRefusal, inserted, removeRefusal, removed, queryAnswer, consistencyAnswer}
@@ -75,7 +75,7 @@ callNumber (query s) = 0
 callNumber consistency = 0
 
 -- a record, or none, is of second s
-abbrev pub isOf : ℕ → Option (List ℕ) → Bool
+abbrev pub isOf : ℕ → Option Record → Bool
 isOf s none = false
 isOf s (some b) = eqb (secondOf b) s
 

@@ -6,56 +6,55 @@ use mathlib.Core.Option.{Option, none, some}
 use lib.Dec.{eqb, leb}
 use lib.ListN.{length}
 use Rattle.lists.specs.Fill.{tab}
-use Rattle.sample_rates.specs.Rates.{sampleRateOf, recordsPerSecond}
+use Rattle.sample_rates.specs.Rates.{recordsPerSecond}
 use Rattle.answers.specs.Answer.{Answer, accepted, unless}
-use Rattle.record.specs.Record.{recordRefusal}
 use Rattle.answers.specs.Refusal.{_when_, first, _then_}
 use Rattle.totals.specs.Total.{totalOf}
 use Rattle.index_model.specs.declared.Opening.{Opening}
-use Rattle.index_model.specs.Records.{numberOf, secondOf, hasOrigin, hasError, channelSamples}
+use Rattle.index_model.specs.Records.{Record, refusalOf, numberOf, secondOf, hasOrigin, hasError, channelSamples}
 use Rattle.index_model.specs.Second.{SecondTotals, noSecond}
-use Rattle.index_model.specs.Opening.{otherReel, isOutside, inWindow}
+use Rattle.index_model.specs.Opening.{heldRate, otherReel, isOutside, inWindow}
 
--- at most one record, its bytes, for each number
+-- at most one record, its edition and its bytes, for each number
 abbrev pub Ledger : Type 0
-Ledger = ℕ → Option (List ℕ)
+Ledger = ℕ → Option Record
 
 -- the ledger of an accepted opening
 abbrev pub noRecords : Ledger
 noRecords n = none
 
 -- the ledger with what number n has replaced
-abbrev pub withEntry : Ledger → ℕ → Option (List ℕ) → Ledger
+abbrev pub withEntry : Ledger → ℕ → Option Record → Ledger
 withEntry ledger n held k = cond (eqb k n) held (ledger k)
 
-abbrev pub isHeld : Option (List ℕ) → Bool
+abbrev pub isHeld : Option Record → Bool
 isHeld none = false
 isHeld (some b) = true
 
 -- ## a second's totals, from nothing
 
 -- what a number has, if it is a record of second s
-abbrev pub recordIn : ℕ → Option (List ℕ) → List (List ℕ)
+abbrev pub recordIn : ℕ → Option Record → List Record
 recordIn s none = []
 recordIn s (some b) = cond (eqb (secondOf b) s) (b ∷ []) []
 
 -- the records of second s, of the numbers 1 to n in their order
-unfoldable pub recordsOf : Ledger → ℕ → ℕ → List (List ℕ)
+unfoldable pub recordsOf : Ledger → ℕ → ℕ → List Record
 recordsOf ledger s zero = []
 recordsOf ledger s (suc n) = recordsOf ledger s n ++ recordIn s (ledger (suc n))
 
 -- how many records pass a test
-unfoldable pub countOf : (List ℕ → Bool) → List (List ℕ) → ℕ
+unfoldable pub countOf : (Record → Bool) → List Record → ℕ
 countOf test [] = 0
 countOf test (b ∷ bs) = cond (test b) 1 0 + countOf test bs
 
 -- L: the records of a full second, by the pattern's rate; said here again, so that the ledger takes nothing from the calls
 abbrev pub perSecond : Opening → ℕ
-perSecond o = recordsPerSecond (sampleRateOf (o .«sample_rate_hz»))
+perSecond o = recordsPerSecond (heldRate o)
 
 -- the totals of some records of a second: each channel's over all their samples, joined; KEPT exactly when they are L, at
 -- least one with clock origin 1, and none with copy error 1
-unfoldable pub totalsOver : Opening → List (List ℕ) → SecondTotals
+unfoldable pub totalsOver : Opening → List Record → SecondTotals
 totalsOver o records =
     record {
       records = length records;
@@ -74,9 +73,9 @@ ledgerSecond o ledger s = totalsOver o (recordsOf ledger s (o .«highest_number�
 unfoldable pub ledgerFull : Opening → Ledger → ℕ → ℕ → Bool
 ledgerFull o ledger n s = leb (perSecond o) (length (recordsOf (withEntry ledger n none) s (o .«highest_number»)))
 
-unfoldable pub ledgerInsert : Opening → Ledger → List ℕ → ℕ
+unfoldable pub ledgerInsert : Opening → Ledger → Record → ℕ
 ledgerInsert o ledger b =
-    recordRefusal b
+    refusalOf b
     then first
     (15 when otherReel o b
     ∷ 16 when isOutside o (numberOf b)
@@ -93,7 +92,7 @@ ledgerQuery o ledger s = unless (first (17 when not (inWindow o s) ∷ [])) noSe
 -- ## calls
 
 pub data Call : Type 0 where
-  insert : List ℕ → Call
+  insert : Record → Call
   remove : ℕ → Call
   query : ℕ → Call
   consistency : Call

@@ -7,13 +7,16 @@ use lib.Dec.{eqb, ltb, leb}
 use lib.ListN.{length}
 use Rattle.lists.specs.Fill.{over}
 use Rattle.fields.specs.Field.{valueOf}
-use Rattle.header.specs.Rows.{tapeNumber, spacecraft, spc, year, day, sampleRate}
-use Rattle.sample_rates.specs.Rates.{sampleRateOf, isNoRate}
+use Rattle.header.specs.Rows.{tapeNumber, spacecraft, spc, year, day}
+use Rattle.header.specs.Edition.{isUnknown}
+use Rattle.sample_rates.specs.declared.SampleRate.{SampleRate}
+use Rattle.sample_rates.specs.Rates.{isNoRate}
+use Rattle.editions.specs.Rates.{sampleRateOf}
 use Rattle.answers.specs.Answer.{Answer, unless}
 use Rattle.checks.specs.Checks.{wrongDate}
-use Rattle.record.specs.Record.{recordRefusal}
 use Rattle.answers.specs.Refusal.{_when_, first, _then_}
 use Rattle.index_model.specs.declared.Opening.{Opening}
+use Rattle.index_model.specs.Records.{Record, refusalOf, rateIn}
 use Rattle.index_model.specs.Cells.{width}
 use Rattle.index_model.specs.Buffers.{Buffers}
 
@@ -34,9 +37,13 @@ limitsWrong o =
     || ltb daySeconds (o .«second_count»)
     || ltb daySeconds (o .«first_second» + o .«second_count»)
 
--- a held rate, tape number or date that 5, 7 or 8 refuses
+-- the line of the held rate, in the held edition
+abbrev pub heldRate : Opening → SampleRate
+heldRate o = sampleRateOf (o .edition) (o .«sample_rate_hz»)
+
+-- a held edition, rate, tape number or date that 25, 5, 7 or 8 refuses
 unfoldable pub heldWrong : Opening → Bool
-heldWrong o = isNoRate (sampleRateOf (o .«sample_rate_hz»)) || eqb (o .«tape_number») 0 || wrongDate (o .year) (o .day)
+heldWrong o = isUnknown (o .edition) || isNoRate (heldRate o) || eqb (o .«tape_number») 0 || wrongDate (o .year) (o .day)
 
 -- fewer row cells than those of R rows, or fewer second cells than those of C seconds
 unfoldable pub tooSmall : Opening → Buffers → Bool
@@ -48,15 +55,16 @@ openingRefusal o c = first (13 when (limitsWrong o || heldWrong o) ∷ 14 when t
 
 -- ## 15 to 17
 
--- a record of another reel: rate, year, day, tape, spacecraft or SPC differ from the pattern's
-unfoldable pub otherReel : Opening → List ℕ → Bool
+-- a record of another reel: edition, rate, year, day, tape, spacecraft or SPC differ from the pattern's
+unfoldable pub otherReel : Opening → Record → Bool
 otherReel o b =
-    not (eqb (valueOf sampleRate b) (o .«sample_rate_hz»))
-    || not (eqb (valueOf year b) (o .year))
-    || not (eqb (valueOf day b) (o .day))
-    || not (eqb (valueOf tapeNumber b) (o .«tape_number»))
-    || not (eqb (valueOf spacecraft b) (o .spacecraft))
-    || not (eqb (valueOf spc b) (o .spc))
+    not (eqb (b .edition) (o .edition))
+    || not (eqb (rateIn b) (o .«sample_rate_hz»))
+    || not (eqb (valueOf year (b .bytes)) (o .year))
+    || not (eqb (valueOf day (b .bytes)) (o .day))
+    || not (eqb (valueOf tapeNumber (b .bytes)) (o .«tape_number»))
+    || not (eqb (valueOf spacecraft (b .bytes)) (o .spacecraft))
+    || not (eqb (valueOf spc (b .bytes)) (o .spc))
 
 -- a record number outside 1 to R
 unfoldable pub isOutside : Opening → ℕ → Bool
@@ -72,19 +80,20 @@ windowPlace o s = s - o .«first_second»
 
 -- ## opening itself
 
--- F, C and R as given, and the pattern's values that 15 compares
-abbrev pub openingOf : List ℕ → ℕ → ℕ → ℕ → Opening
+-- F, C and R as given, and the pattern's edition and values that 15 compares
+abbrev pub openingOf : Record → ℕ → ℕ → ℕ → Opening
 openingOf pattern F C R =
     record {
       «first_second» = F;
       «second_count» = C;
       «highest_number» = R;
-      «sample_rate_hz» = valueOf sampleRate pattern;
-      «tape_number» = valueOf tapeNumber pattern;
-      year = valueOf year pattern;
-      day = valueOf day pattern;
-      spacecraft = valueOf spacecraft pattern;
-      spc = valueOf spc pattern;
+      edition = pattern .edition;
+      «sample_rate_hz» = rateIn pattern;
+      «tape_number» = valueOf tapeNumber (pattern .bytes);
+      year = valueOf year (pattern .bytes);
+      day = valueOf day (pattern .bytes);
+      spacecraft = valueOf spacecraft (pattern .bytes);
+      spc = valueOf spc (pattern .bytes);
     }
 
 -- beside a refusal: 0 throughout
@@ -94,6 +103,7 @@ noOpening =
       «first_second» = 0;
       «second_count» = 0;
       «highest_number» = 0;
+      edition = 0;
       «sample_rate_hz» = 0;
       «tape_number» = 0;
       year = 0;
@@ -107,11 +117,11 @@ abbrev pub cleared : ℕ → ℕ → Buffers → Buffers
 cleared C R c =
     record { rows = over (c .rows) (λ (k : ℕ). 0) (width * R); seconds = over (c .seconds) (λ (k : ℕ). 0) (width * C) }
 
-module _ (pattern : List ℕ) (F C R : ℕ) (c : Buffers) where
-  -- 1 to 11 of the pattern, then 13, then 14
+module _ (pattern : Record) (F C R : ℕ) (c : Buffers) where
+  -- 25 and 1 to 11 of the pattern, then 13, then 14
   unfoldable pub openRefusal : ℕ
   openRefusal =
-      recordRefusal pattern
+      refusalOf pattern
       then first
       (13 when limitsWrong (openingOf pattern F C R)
       ∷ 14 when tooSmall (openingOf pattern F C R) c

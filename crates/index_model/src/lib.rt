@@ -17,12 +17,13 @@ pub const GREATEST_OFFSET: u64 = 129;
 pub const SECOND_MS: u64 = 1000;
 
 // What opening returns. It never changes and goes into every later call: the first second and the number of seconds of the
-// window, the highest record number, and the values of the pattern record that every record put must share.
+// window, the highest record number, and the edition and the values of the pattern record that every record put must share.
 #[repr(C)]
 pub struct Opening {
     pub first_second: u64,
     pub second_count: u64,
     pub highest_number: u64,
+    pub edition: u64,
     pub sample_rate_hz: u64,
     pub tape_number: u64,
     pub year: u64,

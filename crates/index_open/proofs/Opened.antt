@@ -3,14 +3,14 @@ use Prim.Native.Nat.{ℕ}
 use mathlib.Core.Path.{_≡_, ap, sym, _∙_}
 use mathlib.Core.List.{List, [], _∷_}
 use Rattle.answers.specs.Answer.{accepted, refused}
-use Rattle.record.specs.Record.{recordRefusal}
 use Rattle.answers.specs.Refusal.{_when_, first, _then_}
 use Rattle.answers.proofs.Refusals.{unless-none, unless-some, cond-some}
 use Rattle.index_model.specs.declared.Opening.{Opening}
+use Rattle.index_model.specs.Records.{Record, refusalOf}
 use Rattle.index_model.specs.Buffers.{Buffers}
 use Rattle.index_model.specs.Opening.{limitsWrong, tooSmall, openingOf, noOpening, cleared, openRefusal, openAnswer, opened}
 
-module _ (pattern : List ℕ) (F C R : ℕ) (c : Buffers) where
+module _ (pattern : Record) (F C R : ℕ) (c : Buffers) where
   abbrev o : Opening
   o = openingOf pattern F C R
 
@@ -19,9 +19,9 @@ module _ (pattern : List ℕ) (F C R : ℕ) (c : Buffers) where
 
   -- what the code judged is the refusal
   pub judged : {n : ℕ} {made : Opening} → made ≡ o
-      → n ≡ recordRefusal pattern then first (13 when limitsWrong made ∷ 14 when tooSmall made c ∷ []) → n ≡ refusal
+      → n ≡ refusalOf pattern then first (13 when limitsWrong made ∷ 14 when tooSmall made c ∷ []) → n ≡ refusal
   unfolding openRefusal
-  judged is e = e ∙ (λ i. recordRefusal pattern then first (13 when limitsWrong (is i) ∷ 14 when tooSmall (is i) c ∷ []))
+  judged is e = e ∙ (λ i. refusalOf pattern then first (13 when limitsWrong (is i) ∷ 14 when tooSmall (is i) c ∷ []))
 
   pub accepted-opening : {made : Opening} → made ≡ o → refusal ≡ 0 → accepted made ≡ openAnswer pattern F C R c
   unfolding openAnswer

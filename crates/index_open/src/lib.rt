@@ -8,6 +8,7 @@ ghost use lib.ListN.{length};
 ghost use Rattle.lists.specs.Fill.{over};
 ghost use Rattle.answers.specs.Refusal.{_when_, first, _then_};
 ghost use Rattle.record.specs.Record.{recordRefusal};
+ghost use Rattle.index_model.specs.Records.{inEdition};
 ghost use Rattle.index_model.specs.Cells.{width};
 ghost use Rattle.index_model.specs.Buffers.{lent};
 ghost use Rattle.index_model.specs.Opening.{daySeconds, limitsWrong, heldWrong, tooSmall, openingRefusal, otherReel, isOutside, inWindow, windowPlace, openingOf, openAnswer, opened};
@@ -50,13 +51,14 @@ fn limits_wrong(o: Opening) -> bool
         | past
 }
 
-// Whether the held rate, tape number or date is one that 5, 7 or 8 refuses.
+// Whether the held edition, rate, tape number or date is one that 25, 5, 7 or 8 refuses.
 fn held_wrong(o: Opening) -> bool
     ensures { λ r. ⌜ r ≡ heldWrong o ⌝ }
 {
-    let rate = sample_rates::sample_rate_of(o.sample_rate_hz);
+    let unknown = editions::is_unknown(o.edition);
+    let rate = editions::sample_rate_of(o.edition, o.sample_rate_hz);
     let date = checks::wrong_date(o.year, o.day);
-    (rate.hz == 0) | (o.tape_number == 0) | date
+    unknown | (rate.hz == 0) | (o.tape_number == 0) | date
 }
 
 // Whether so many cells are fewer than those of so many rows or seconds; no product, so that no count can wrap.
@@ -86,17 +88,18 @@ pub fn opening_refusal(o: Opening, rows: &[u32], seconds: &[u32]) -> u8
     answers::check(13, limits | held, small)
 }
 
-// Whether a record is of another reel.
-pub fn other_reel(o: Opening, bytes: &[u8]) -> bool
-    ensures { λ r. ⌜ r ≡ otherReel o (now (bytes .entry)) ⌝ }
+// Whether a record of an edition is of another reel.
+pub fn other_reel(o: Opening, edition: u64, bytes: &[u8]) -> bool
+    ensures { λ r. ⌜ r ≡ otherReel o (inEdition edition (now (bytes .entry))) ⌝ }
 {
-    let sample_rate = fields::read_field(bytes, header::SAMPLE_RATE);
+    let sample_rate = record::sample_rate_in(edition, bytes);
     let year = fields::read_field(bytes, header::YEAR);
     let day = fields::read_field(bytes, header::DAY);
     let tape_number = fields::read_field(bytes, header::TAPE_NUMBER);
     let spacecraft = fields::read_field(bytes, header::SPACECRAFT);
     let spc = fields::read_field(bytes, header::SPC);
-    (sample_rate != o.sample_rate_hz)
+    (edition != o.edition)
+        | (sample_rate != o.sample_rate_hz)
         | (year != o.year)
         | (day != o.day)
         | (tape_number != o.tape_number)
@@ -135,19 +138,26 @@ pub fn window_place(o: Opening, s: u64) -> u64
 pub fn full_count(o: Opening) -> u64
     ensures { λ r. ⌜ r ≡ fullCount o ⌝ }
 {
-    let rate = sample_rates::sample_rate_of(o.sample_rate_hz);
-    rate.records
+    let held = editions::sample_rate_of(o.edition, o.sample_rate_hz);
+    held.records
 }
 
-// F, C and R as given, with the pattern's values that 15 compares.
-fn opening_of(pattern: &[u8], first_second: u64, second_count: u64, highest_number: u64) -> Opening
-    ensures { λ r. ⌜ r ≡ openingOf (now (pattern .entry)) «first_second» «second_count» «highest_number» ⌝ }
+// F, C and R as given, with the pattern's edition and values that 15 compares.
+fn opening_of(
+    edition: u64,
+    pattern: &[u8],
+    first_second: u64,
+    second_count: u64,
+    highest_number: u64,
+) -> Opening
+    ensures { λ r. ⌜ r ≡ openingOf (inEdition edition (now (pattern .entry))) «first_second» «second_count» «highest_number» ⌝ }
 {
     Opening {
         first_second,
         second_count,
         highest_number,
-        sample_rate_hz: fields::read_field(pattern, header::SAMPLE_RATE),
+        edition,
+        sample_rate_hz: record::sample_rate_in(edition, pattern),
         tape_number: fields::read_field(pattern, header::TAPE_NUMBER),
         year: fields::read_field(pattern, header::YEAR),
         day: fields::read_field(pattern, header::DAY),
@@ -157,12 +167,12 @@ fn opening_of(pattern: &[u8], first_second: u64, second_count: u64, highest_numb
 }
 
 // The refusal of the pattern, then that of the limits and of the lent buffers.
-fn judge(pattern: &[u8], o: Opening, rows: &[u32], seconds: &[u32]) -> u8
-    ensures { λ r. ⌜ r ≡ recordRefusal (now (pattern .entry)) then first (13 when limitsWrong o ∷ 14 when tooSmall o (lent (now (rows .entry)) (now (seconds .entry))) ∷ []) ⌝ }
+fn judge(edition: u64, pattern: &[u8], o: Opening, rows: &[u32], seconds: &[u32]) -> u8
+    ensures { λ r. ⌜ r ≡ recordRefusal edition (now (pattern .entry)) then first (13 when limitsWrong o ∷ 14 when tooSmall o (lent (now (rows .entry)) (now (seconds .entry))) ∷ []) ⌝ }
 {
     let small = answers::check(14, too_small(o, rows, seconds), 0);
     let limits = answers::check(13, limits_wrong(o), small);
-    answers::first_refusal(record::refusal_of(pattern), limits)
+    answers::first_refusal(record::refusal_of(edition, pattern), limits)
 }
 
 // The first cells become 0; those past them stay.
@@ -179,6 +189,7 @@ fn clear(cells: &mut [u32], count: usize)
 
 // Opens the index: the cells of R rows and of C seconds become 0, and none beyond is touched; a refusal touches none.
 pub fn open(
+    edition: u64,
     pattern: &[u8],
     first_second: u64,
     second_count: u64,
@@ -186,12 +197,12 @@ pub fn open(
     rows: &mut [u32],
     seconds: &mut [u32],
 ) -> OpenAnswer
-    ensures { λ r. ⌜ shownOpen r ≡ openAnswer (now (pattern .entry)) «first_second» «second_count» «highest_number» (lent (now (rows .entry)) (now (seconds .entry))) ⌝ }
-    ensures { λ r. ⌜ now (rows .exit) ≡ opened (now (pattern .entry)) «first_second» «second_count» «highest_number» (lent (now (rows .entry)) (now (seconds .entry))) .rows ⌝ }
-    ensures { λ r. ⌜ now (seconds .exit) ≡ opened (now (pattern .entry)) «first_second» «second_count» «highest_number» (lent (now (rows .entry)) (now (seconds .entry))) .seconds ⌝ }
+    ensures { λ r. ⌜ shownOpen r ≡ openAnswer (inEdition edition (now (pattern .entry))) «first_second» «second_count» «highest_number» (lent (now (rows .entry)) (now (seconds .entry))) ⌝ }
+    ensures { λ r. ⌜ now (rows .exit) ≡ opened (inEdition edition (now (pattern .entry))) «first_second» «second_count» «highest_number» (lent (now (rows .entry)) (now (seconds .entry))) .rows ⌝ }
+    ensures { λ r. ⌜ now (seconds .exit) ≡ opened (inEdition edition (now (pattern .entry))) «first_second» «second_count» «highest_number» (lent (now (rows .entry)) (now (seconds .entry))) .seconds ⌝ }
 {
-    let o = opening_of(pattern, first_second, second_count, highest_number);
-    let n = judge(pattern, o, rows, seconds);
+    let o = opening_of(edition, pattern, first_second, second_count, highest_number);
+    let n = judge(edition, pattern, o, rows, seconds);
     if n == 0 {
         clear(rows, WIDTH * (highest_number as usize));
         clear(seconds, WIDTH * (second_count as usize));

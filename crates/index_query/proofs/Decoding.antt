@@ -14,8 +14,9 @@ use mir.Syntax.{w64}
 use mir.Val.{SFits, toZ, ofZ}
 use mir.ValLaws.{toZ-pos, toZ-ofZ}
 use Rattle.sample_rates.specs.declared.SampleRate.{SampleRate}
-use Rattle.sample_rates.specs.Rates.{sampleRateOf, samplesPerRecord, mostSamples}
-use Rattle.sample_rates.proofs.Lines.{rate-line}
+use Rattle.sample_rates.specs.Rates.{samplesPerRecord, mostSamples}
+use Rattle.editions.specs.Rates.{sampleRateOf}
+use Rattle.editions.proofs.Lines.{rate-line}
 use Rattle.totals.specs.Total.{noTotal}
 use Rattle.index_model.specs.Cells.{cellLimit, sampleOffset}
 use Rattle.index_model.specs.Calls.{channelShown, totalFrom}
@@ -27,15 +28,15 @@ use Rattle.index_query.specs.Exact.{ExactTotal}
 -- ## counts
 
 -- what a line of the table of rates says at most
-samples-most : (hz : ℕ) → samplesPerRecord (sampleRateOf hz) ≤ mostSamples
-samples-most hz =
-    ⊎-elim (λ e. subst (λ (l : SampleRate). samplesPerRecord l ≤ mostSamples) (sym e) (omega arith)) (λ l. l .most) (rate-line hz)
+samples-most : (n hz : ℕ) → samplesPerRecord (sampleRateOf n hz) ≤ mostSamples
+samples-most n hz =
+    ⊎-elim (λ e. subst (λ (l : SampleRate). samplesPerRecord l ≤ mostSamples) (sym e) (omega arith)) (λ l. l .most) (rate-line n hz)
 
-pub count-most : (records hz : ℕ) (rate : SampleRate) → rate ≡ sampleRateOf hz → records < cellLimit
+pub count-most : (records n hz : ℕ) (rate : SampleRate) → rate ≡ sampleRateOf n hz → records < cellLimit
     → records * samplesPerRecord rate ≤ sampleLimit
-count-most records hz rate e h =
+count-most records n hz rate e h =
     mul-le-mul {n₁ = records} {m₁ = samplesPerRecord rate} {n₂ = cellLimit} {m₂ = mostSamples} (omega arith)
-    (subst (λ (l : SampleRate). samplesPerRecord l ≤ mostSamples) (sym e) (samples-most hz))
+    (subst (λ (l : SampleRate). samplesPerRecord l ≤ mostSamples) (sym e) (samples-most n hz))
 
 -- ## the sum
 

@@ -8,13 +8,13 @@ ghost use lib.IntN.{pos, natAbs, _-ℤ_};
 ghost use lib.ListN.{getD};
 ghost use Rattle.lists.specs.Fill.{tab};
 ghost use Rattle.floats.specs.Whole.{exactLimit};
-ghost use Rattle.sample_rates.specs.Rates.{sampleRateOf, samplesPerRecord};
+ghost use Rattle.sample_rates.specs.Rates.{samplesPerRecord};
 ghost use Rattle.answers.specs.Answer.{accepted, refused};
 ghost use Rattle.index_model.specs.Second.{noSecond};
 ghost use Rattle.index_model.specs.Cells.{width, channelCell, sampleOffset};
 ghost use Rattle.index_model.specs.Buffers.{lent};
 ghost use Rattle.index_model.specs.Limits.{WithinLimits};
-ghost use Rattle.index_model.specs.Opening.{inWindow};
+ghost use Rattle.index_model.specs.Opening.{heldRate, inWindow};
 ghost use Rattle.index_model.specs.Calls.{leastFrom, greatestFrom, totalFrom, keptFrom, secondShown, queryRefusal, queryAnswer, rowsInside, cellsRight, secondsRight, consistencyAnswer};
 ghost use Rattle.index_query.specs.Inner.{sampleLimit, sameTo};
 ghost use Rattle.index_query.specs.Exact.{ExactTotal, ExactTotals};
@@ -108,9 +108,9 @@ fn is_kept(cells: [u32; WIDTH], full: u64) -> bool
 
 // The samples of each channel in so many records.
 pub fn samples_in_records(o: Opening, records: u32) -> u64
-    ensures { λ r. ⌜ (r ≡ records * samplesPerRecord (sampleRateOf (o .«sample_rate_hz»))) × (r ≤ sampleLimit) ⌝ }
+    ensures { λ r. ⌜ (r ≡ records * samplesPerRecord (heldRate o)) × (r ≤ sampleLimit) ⌝ }
 {
-    let rate = sample_rates::sample_rate_of(o.sample_rate_hz);
+    let rate = editions::sample_rate_of(o.edition, o.sample_rate_hz);
     index_cells::wide(records) * rate.samples
 }
 

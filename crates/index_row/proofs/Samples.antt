@@ -20,9 +20,9 @@ use Rattle.totals.proofs.Sums.{sum-bound, squares-bound}
 use Rattle.index_model.specs.Cells.{cellLimit, samplesIn}
 use Rattle.index_row.specs.Row.{Bounded, AllBounded}
 
-pub stretch-most : (b : List ℕ) → length (stretchOf b) ≤ 4 * mostSamples
+pub stretch-most : (n : ℕ) (b : List ℕ) → length (stretchOf n b) ≤ 4 * mostSamples
 unfolding stretchOf
-stretch-most b = simp length-take (omega (arith, count-small b))
+stretch-most n b = simp length-take (omega (arith, count-small n b))
 
 pub tag-small : (b : List ℕ) → valueOf timeTag b < cellLimit
 unfolding valueOf

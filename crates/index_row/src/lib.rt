@@ -7,7 +7,7 @@ ghost use lib.Dec.{eqb};
 ghost use lib.ListN.{length};
 ghost use Rattle.sample_rates.specs.Rates.{mostSamples};
 ghost use Rattle.totals.specs.Running.{totalAt};
-ghost use Rattle.index_model.specs.Records.{secondOf};
+ghost use Rattle.index_model.specs.Records.{inEdition, secondIn};
 ghost use Rattle.index_model.specs.Cells.{cellLimit, channelCells, stretchCells, flag, rowOf};
 ghost use Rattle.index_row.specs.Row.{cellList, AllBounded};
 use index_model::GREATEST_OFFSET;
@@ -36,7 +36,7 @@ fn flag_cell(bit: u64) -> u32
 
 // The second of a record; the tag of any bytes is less than a cell can hold.
 pub fn second_of(bytes: &[u8]) -> u64
-    ensures { λ r. ⌜ (r ≡ secondOf (now (bytes .entry))) × (r < cellLimit) ⌝ }
+    ensures { λ r. ⌜ (r ≡ secondIn (now (bytes .entry))) × (r < cellLimit) ⌝ }
 {
     fields::read_field(bytes, header::TIME_TAG) / SECOND_MS
 }
@@ -114,12 +114,17 @@ fn stretch_row(origin: u32, error: u32, second: u32, stretch: &[u8]) -> [u32; WI
     )
 }
 
-// The row of any bytes.
-pub fn row_of(bytes: &[u8]) -> [u32; WIDTH]
-    ensures { λ r. ⌜ r ≡ rowOf (now (bytes .entry)) ⌝ }
+// The row of any bytes in an edition.
+pub fn row_of(edition: u64, bytes: &[u8]) -> [u32; WIDTH]
+    ensures { λ r. ⌜ r ≡ rowOf (inEdition edition (now (bytes .entry))) ⌝ }
 {
     let origin = flag_cell(fields::read_field(bytes, header::CLOCK_ORIGIN));
     let error = flag_cell(fields::read_field(bytes, header::COPY_ERROR));
     let second = second_of(bytes) as u32;
-    stretch_row(origin, error, second, record::sample_stretch(bytes))
+    stretch_row(
+        origin,
+        error,
+        second,
+        record::sample_stretch(edition, bytes),
+    )
 }

@@ -8,9 +8,8 @@ use lib.Dec.{eqb}
 use borrow.Author.Tests.{not-false}
 use Rattle.answers.specs.Refusal.{_when_, first, _then_}
 use Rattle.answers.proofs.Refusals.{then-zero, none-applies, cond-none, cond-some}
-use Rattle.record.specs.Record.{recordRefusal}
 use Rattle.index_model.specs.declared.Opening.{Opening}
-use Rattle.index_model.specs.Records.{numberOf, secondOf}
+use Rattle.index_model.specs.Records.{Record, refusalOf, numberOf, secondOf}
 use Rattle.index_model.specs.Cells.{cell, rowOf}
 use Rattle.index_model.specs.Buffers.{Buffers}
 use Rattle.index_model.specs.Limits.{WithinLimits}
@@ -23,7 +22,7 @@ use Rattle.index_update.proofs.Changing.{placed}
 row-below : (o : Opening) (n : ℕ) → isOutside o n ≡ false → n - 1 < o .«highest_number»
 row-below o n e = let r = in-range o n e in omega (arith, r .0, r .1)
 
-pub put-fits : (o : Opening) (b : List ℕ) (c : Buffers) → insertRefusal o b c ≡ 0 → WithinLimits o c
+pub put-fits : (o : Opening) (b : Record) (c : Buffers) → insertRefusal o b c ≡ 0 → WithinLimits o c
     × (numberOf b - 1 < o .«highest_number») × Placed o (secondOf b)
 unfolding insertRefusal
 put-fits o b c none =
@@ -35,7 +34,7 @@ put-fits o b c none =
     ∷ []
     in
     let later = then-zero (openingRefusal o c) (first checks)
-    (then-zero (recordRefusal b) (openingRefusal o c then first checks) none .1) in (
+    (then-zero (refusalOf b) (openingRefusal o c then first checks) none .1) in (
       within-limits o c (later .0),
       row-below o _ (none-applies checks 1 tt (later .1)),
       placed o _
@@ -51,7 +50,7 @@ take-fits o n c none =
 
 -- ## the buffers after a put, and after a take-out
 
-module _ (o : Opening) (b : List ℕ) (c : Buffers) where
+module _ (o : Opening) (b : Record) (c : Buffers) where
   pub put-done : insertRefusal o b c ≡ 0 → rowInserted o (numberOf b - 1) (secondOf b) (rowOf b) c ≡ inserted o b c
   unfolding inserted
   put-done none = sym (cond-none (insertRefusal o b c) c (rowInserted o (numberOf b - 1) (secondOf b) (rowOf b) c) none)

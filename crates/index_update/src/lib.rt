@@ -5,7 +5,7 @@ ghost use mathlib.Core.Bool.{not, _&&_};
 ghost use Prim.Native.Nat.{_+_, _-_, _*_, _≤_, _<_};
 ghost use lib.Dec.{eqb};
 ghost use lib.ListN.{length};
-ghost use Rattle.index_model.specs.Records.{numberOf, secondOf};
+ghost use Rattle.index_model.specs.Records.{inEdition, numberOf, secondIn};
 ghost use Rattle.index_model.specs.Cells.{width, cell, withBlock, flag, rowWithin};
 ghost use Rattle.index_model.specs.Buffers.{lent};
 ghost use Rattle.index_model.specs.Limits.{WithinLimits};
@@ -117,35 +117,36 @@ fn is_full(o: Opening, i: u64, second: u64, rows: &[u32], seconds: &[u32]) -> bo
 // The refusal of putting a record with this number and second, or 0.
 fn judge_insert(
     o: Opening,
+    edition: u64,
     bytes: &[u8],
     number: u64,
     second: u64,
     rows: &[u32],
     seconds: &[u32],
 ) -> u8
-    requires { ⌜ (number ≡ numberOf (now bytes)) × (second ≡ secondOf (now bytes)) ⌝ }
-    ensures { λ r. ⌜ r ≡ insertRefusal o (now (bytes .entry)) (lent (now (rows .entry)) (now (seconds .entry))) ⌝ }
+    requires { ⌜ (number ≡ numberOf (inEdition edition (now bytes))) × (second ≡ secondIn (now bytes)) ⌝ }
+    ensures { λ r. ⌜ r ≡ insertRefusal o (inEdition edition (now (bytes .entry))) (lent (now (rows .entry)) (now (seconds .entry))) ⌝ }
 {
     let full = is_full(o, row_place(number), second, rows, seconds);
     let room = answers::check(18, full, 0);
     let window = answers::check(17, !index_open::in_window(o, second), room);
     let numbers = answers::check(16, index_open::is_outside(o, number), window);
-    let reel = answers::check(15, index_open::other_reel(o, bytes), numbers);
+    let reel = answers::check(15, index_open::other_reel(o, edition, bytes), numbers);
     let limits = answers::first_refusal(index_open::opening_refusal(o, rows, seconds), reel);
-    answers::first_refusal(record::refusal_of(bytes), limits)
+    answers::first_refusal(record::refusal_of(edition, bytes), limits)
 }
 
-// A record is put under its number, in place of any there. It is judged once, and its row made only then.
-pub fn insert(o: Opening, bytes: &[u8], rows: &mut [u32], seconds: &mut [u32]) -> u8
-    ensures { λ r. ⌜ r ≡ insertRefusal o (now (bytes .entry)) (lent (now (rows .entry)) (now (seconds .entry))) ⌝ }
-    ensures { λ r. ⌜ now (rows .exit) ≡ inserted o (now (bytes .entry)) (lent (now (rows .entry)) (now (seconds .entry))) .rows ⌝ }
-    ensures { λ r. ⌜ now (seconds .exit) ≡ inserted o (now (bytes .entry)) (lent (now (rows .entry)) (now (seconds .entry))) .seconds ⌝ }
+// A record of an edition is put under its number, in place of any there. It is judged once, and its row made only then.
+pub fn insert(o: Opening, edition: u64, bytes: &[u8], rows: &mut [u32], seconds: &mut [u32]) -> u8
+    ensures { λ r. ⌜ r ≡ insertRefusal o (inEdition edition (now (bytes .entry))) (lent (now (rows .entry)) (now (seconds .entry))) ⌝ }
+    ensures { λ r. ⌜ now (rows .exit) ≡ inserted o (inEdition edition (now (bytes .entry))) (lent (now (rows .entry)) (now (seconds .entry))) .rows ⌝ }
+    ensures { λ r. ⌜ now (seconds .exit) ≡ inserted o (inEdition edition (now (bytes .entry))) (lent (now (rows .entry)) (now (seconds .entry))) .seconds ⌝ }
 {
     let number = fields::read_field(bytes, header::RECORD_NUMBER);
     let second = index_row::second_of(bytes);
-    let n = judge_insert(o, bytes, number, second, rows, seconds);
+    let n = judge_insert(o, edition, bytes, number, second, rows, seconds);
     if n == 0 {
-        let row = index_row::row_of(bytes);
+        let row = index_row::row_of(edition, bytes);
         insert_row(o, row_place(number), second, row, rows, seconds);
         return 0;
     }

@@ -35,16 +35,16 @@ module _ (out text : List ℕ) where
   )
 
 -- 1 to 11 come before 21
-module _ (b out : List ℕ) {n : ℕ} (e : n ≡ recordRefusal b) where
+module _ (b out : List ℕ) {n : ℕ} (e : n ≡ recordRefusal 1985 b) where
   pub record-refused : (n ≡ 0 → ⊥) → (refused 0 n ≡ textAnswer (lineRefusal b out) (recordText b)) ×
       (out ≡ bufferAfter (lineRefusal b out) out (recordText b))
   unfolding lineRefusal textAnswer bufferAfter
   record-refused some =
-      let same : n ≡ lineRefusal b out = e ∙ sym (then-some (recordRefusal b) _ (λ z. some (e ∙ z))) in (
+      let same : n ≡ lineRefusal b out = e ∙ sym (then-some (recordRefusal 1985 b) _ (λ z. some (e ∙ z))) in (
         ap (refused 0) same ∙ unless-some (lineRefusal b out) 0 (length (recordText b)) (λ z. some (same ∙ z)),
         sym (cond-some (lineRefusal b out) out (textOver (recordText b) out) (λ z. some (same ∙ z))),
       )
 
   pub record-accepted : n ≡ 0 → textRefusal out (recordText b) ≡ lineRefusal b out
   unfolding lineRefusal
-  record-accepted z = sym (then-none (recordRefusal b) _ (sym e ∙ z))
+  record-accepted z = sym (then-none (recordRefusal 1985 b) _ (sym e ∙ z))

@@ -1,6 +1,6 @@
 -- THE BUFFER IS ENOUGH: no input has a listing longer than `longestListing`, so that a buffer of that size never gives 21.
 -- Assumes nothing.
-use Prim.Native.Nat.{ℕ, _+_, _*_, _/_, _≤_}
+use Prim.Native.Nat.{ℕ, _+_, _*_, _≤_}
 use mathlib.Core.Path.{_≡_, refl, ap}
 use mathlib.Core.Bool.{Bool, true, false, cond}
 use mathlib.Core.List.{List, _++_}
@@ -8,7 +8,6 @@ use native.Mathlib.Omega.{arith}
 use lib.Dec.{ltb, lit<}
 use lib.ListN.{length, length-append}
 use borrow.Author.Tests.{ltb-true, ltb-false}
-use Rattle.header.specs.Format.{headerBytes}
 use Rattle.reel.specs.Reel.{Found, stepAt}
 use Rattle.reel.specs.Walk.{walk}
 use Rattle.reel.proofs.Onward.{along}
@@ -23,28 +22,28 @@ use Rattle.listing.proofs.Longest.{far, texts-small, last-small, last-s
 
 module _ (input : List ℕ) where
   abbrev records : List (List ℕ)
-  records = walk input .records
+  records = walk 1985 input .records
 
   abbrev place : ℕ
-  place = walk input .place
+  place = walk 1985 input .place
 
   abbrev walked : List ℕ
-  walked = walkText (walk input)
+  walked = walkText (walk 1985 input)
 
   -- the records lie one behind the other in the input
   inside : (shortestRecord * length records ≤ place) × (place ≤ length input)
   unfolding walk
   inside =
-      (omega (arith, far input (length input / headerBytes) 0), along input (length input / headerBytes) 0 .inside (omega arith))
+      (omega (arith, far input (length input) 0), along 1985 input (length input) 0 .inside (omega arith))
 
   -- what is written of them, with a last line of at most m bytes
-  walked-within : (m : ℕ) → length (lastText (stepAt input place)) ≤ m → length walked ≤ longestLine * length records + m
+  walked-within : (m : ℕ) → length (lastText (stepAt 1985 input place)) ≤ m → length walked ≤ longestLine * length records + m
   walked-within m h =
       omega (
         arith,
-        length-append (recordTexts records) (lastText (walk input .last)),
-        texts-small records (all-accepted input),
-        ap (λ (f : Found). length (lastText f)) (ends-there input),
+        length-append (recordTexts records) (lastText (walk 1985 input .last)),
+        texts-small records (all-accepted 1985 input),
+        ap (λ (f : Found). length (lastText f)) (ends-there 1985 input),
       )
 
   -- 84 records leave too few bytes for a header, so that the last line is short; fewer records leave room for any last line

@@ -12,7 +12,7 @@ use Rattle.fields.specs.Field.{valueOf, decimalFits}
 use Rattle.fields.specs.Table.{readAll, placeOf}
 use Rattle.fields.proofs.OneField.{value-lt}
 use Rattle.fields.proofs.Tables.{fit-at}
-use Rattle.header.specs.Format.{fields1985}
+use Rattle.header.specs.Edition.{editionOf, fieldsOf}
 use Rattle.header.specs.Rows.{clockOrigin, recordNumber, readback, frequencyRateDigits, frequencyRatePower, frequencyRateSign}
 use Rattle.frequency_rate.specs.FrequencyRate.{frequencyRateUnits, frequencyRateOf}
 use Rattle.record.specs.Record.{recordRefusal}
@@ -20,6 +20,7 @@ use Rattle.record.proofs.Accepted.{record-facts, values-small}
 use Rattle.frequency_rate.proofs.Signs.{power-small}
 use Rattle.text.proofs.Line.{line-within}
 use Rattle.times.specs.SampleTime.{sampleTime}
+use Rattle.times.proofs.Timed.{not-rounded}
 use Rattle.listing.specs.Listing.{columnsOf, recordText, longestLine}
 
 size-of : (n : ℕ) → natAbs (negℤ (pos n)) ≡ n
@@ -34,18 +35,21 @@ rate-size digits power sign = by-test (eqb sign 1)
     by-test true = refl
     by-test false = size-of (digits * 10 ^ power)
 
-module _ (b : List ℕ) (e : recordRefusal b ≡ 0) where
+module _ (b : List ℕ) (e : recordRefusal 1985 b ≡ 0) where
   frequency-small : valueOf readback b < 10 ^ 14
-  frequency-small = ltb→lt _ _ (fit-at decimalFits fields1985 (readAll fields1985 b) (placeOf fields1985 readback)
-      (values-small b e .0) (lit< tt))
+  unfolding editionOf
+  frequency-small =
+      ltb→lt _ _ (fit-at decimalFits (fieldsOf 1985) (readAll (fieldsOf 1985) b) (placeOf (fieldsOf 1985) readback)
+      (values-small 1985 b e .0) (lit< tt))
 
   digits-small : valueOf frequencyRateDigits b < 10 ^ 5
-  digits-small = ltb→lt _ _ (fit-at decimalFits fields1985 (readAll fields1985 b) (placeOf fields1985 frequencyRateDigits)
-      (values-small b e .0) (lit< tt))
+  unfolding editionOf
+  digits-small =
+      ltb→lt _ _ (fit-at decimalFits (fieldsOf 1985) (readAll (fieldsOf 1985) b) (placeOf (fieldsOf 1985) frequencyRateDigits)
+      (values-small 1985 b e .0) (lit< tt))
 
-  time-small : sampleTime b 0 < 10 ^ 11
-  unfolding sampleTime
-  time-small = let tag = record-facts b e .tag in omega arith
+  time-small : sampleTime 1985 b 0 < 10 ^ 11
+  time-small = let tag = record-facts 1985 b e .tag in omega (arith, not-rounded 1985 b 0)
 
   rate-small : natAbs (frequencyRateOf b) < 10 ^ 7 * 10 ^ 5
   unfolding frequencyRateOf
@@ -61,9 +65,9 @@ module _ (b : List ℕ) (e : recordRefusal b ≡ 0) where
   line-small =
       line-within (columnsOf b) 5 11 1 8 7 (lit< tt) (lit< tt) (lit< tt) (lit< tt) (lit< tt)
       (record {
-        number = omega (arith, value-lt recordNumber b refl);
+        number = omega (arith, value-lt recordNumber b refl refl);
         first = time-small;
-        origin = omega (arith, value-lt clockOrigin b refl);
+        origin = omega (arith, value-lt clockOrigin b refl refl);
         frequency = frequency-small;
         rate = rate-small;
       })

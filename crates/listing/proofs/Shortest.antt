@@ -1,4 +1,4 @@
--- An accepted record has at least 780 bytes, by one computed test over the table of rates. Assumes nothing.
+-- An accepted record of 1985 has at least 780 bytes, by one computed test over the table of rates. Assumes nothing.
 use Prim.Native.Nat.{ℕ, _*_, _≤_}
 use mathlib.Core.Path.{_≡_}
 use mathlib.Core.Bool.{Bool, true, false, cond, _&&_}
@@ -9,9 +9,10 @@ use lib.Dec.{T, eqb, leb, leb→le}
 use lib.ListN.{length}
 use Rattle.lists.proofs.Truth.{left, right}
 use Rattle.sample_rates.specs.declared.SampleRate.{SampleRate}
-use Rattle.sample_rates.specs.Rates.{rates, lineIn, sampleRateOf, rateHz, wordsA}
+use Rattle.sample_rates.specs.Rates.{rates1985, lineIn, rateHz, wordsA}
 use Rattle.fields.specs.Field.{valueOf}
-use Rattle.header.specs.Rows.{sampleRate}
+use Rattle.header.specs.Edition.{editionOf, sampleRate}
+use Rattle.editions.specs.Rates.{sampleRateOf}
 use Rattle.record.specs.Record.{recordRefusal}
 use Rattle.record.proofs.Accepted.{record-facts}
 use Rattle.listing.specs.Listing.{shortestRecord}
@@ -37,13 +38,13 @@ long-in (l ∷ ls) hz t h = by-test (eqb (l .hz) hz) (long-in ls hz (right (long
     by-test false rest p = rest p
 
 -- the one computed test
-rates-long : T (longLines rates)
+rates-long : T (longLines rates1985)
 rates-long = tt
 
-pub record-long : (b : List ℕ) → recordRefusal b ≡ 0 → shortestRecord ≤ length b
-unfolding sampleRateOf
+pub record-long : (b : List ℕ) → recordRefusal 1985 b ≡ 0 → shortestRecord ≤ length b
+unfolding sampleRateOf editionOf
 record-long b e =
-    let f = record-facts b e in
+    let f = record-facts 1985 b e in
     let l = f .line in
-    let long = long-in rates (valueOf sampleRate b) rates-long (l .positive) in
+    let long = long-in rates1985 (valueOf (sampleRate 1985) b) rates-long (l .positive) in
     ⊎-elim (λ p. omega (arith, p, f .words, l .shorter, l .longer, long)) (λ p. omega (arith, p, f .words, long)) (f .size)

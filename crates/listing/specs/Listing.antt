@@ -1,5 +1,5 @@
--- What the lister writes, and what a call answers that writes text into a lent buffer. FORMAT, "The listing", "Refusal
--- numbers". The lines themselves are in crate `text`, the walk along a reel in crate `reel`.
+-- What the lister writes of a reel of 1985, and what a call answers that writes text into a lent buffer. FORMAT, "The listing",
+-- "Refusal numbers". The lines themselves are in crate `text`, the walk along a reel in crate `reel`.
 use Prim.Native.Nat.{ℕ, _+_, _*_, _/_}
 use mathlib.Core.Bool.{cond}
 use mathlib.Core.List.{List, [], _∷_, _++_}
@@ -27,7 +27,7 @@ abbrev pub columnsOf : List ℕ → Columns
 columnsOf b =
     record {
       number = valueOf recordNumber b;
-      «first_us» = sampleTime b 0;
+      «first_us» = sampleTime 1985 b 0;
       origin = valueOf clockOrigin b;
       «frequency_uhz» = valueOf readback b;
       «frequency_rate_units» = frequencyRateOf b;
@@ -54,7 +54,7 @@ walkText w = recordTexts (w .records) ++ lastText (w .last)
 
 -- the header line comes first; 24 is judged before any record
 unfoldable pub listing : List ℕ → List ℕ
-listing input = headerLine ++ cond (ltb longestInput (length input)) (refusedLine 24) (walkText (walk input))
+listing input = headerLine ++ cond (ltb longestInput (length input)) (refusedLine 24) (walkText (walk 1985 input))
 
 -- ## the longest listing
 
@@ -95,7 +95,7 @@ bufferAfter n out text = cond (eqb n 0) (textOver text out) out
 
 -- the line of a record: 1 to 11, then 21
 unfoldable pub lineRefusal : List ℕ → List ℕ → ℕ
-lineRefusal b out = recordRefusal b then textRefusal out (recordText b)
+lineRefusal b out = recordRefusal 1985 b then textRefusal out (recordText b)
 
 abbrev pub lineAnswer : List ℕ → List ℕ → Answer ℕ
 lineAnswer b out = textAnswer (lineRefusal b out) (recordText b)

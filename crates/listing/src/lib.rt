@@ -1,6 +1,6 @@
-// The listing of a reel as text in a lent buffer, and the line of one record. FORMAT, "The listing", "Refusal numbers". The
-// walk is by the reel reader, and each record is judged once. The public functions take any bytes and any buffer; a refusal is
-// a number.
+// The listing of a reel as text in a lent buffer, and the line of one record. FORMAT, "The listing", "Refusal numbers". Reels and
+// records are of 1985. The walk is by the reel reader, and each record is judged once. The public functions take any bytes and
+// any buffer; a refusal is a number.
 ghost use mathlib.Core.Path.{_≡_};
 ghost use lib.ListN.{length};
 ghost use Rattle.text.specs.Placed.{shownText};
@@ -10,6 +10,7 @@ ghost use Rattle.reel.specs.Walk.{walk};
 ghost use Rattle.listing.specs.Listing.{columnsOf, recordText, walkText, listing, longestListing, textOver};
 ghost use Rattle.listing.specs.Listing.{lineAnswer, lineAfter, listAnswer, listAfter};
 ghost use Rattle.listing.specs.Shown.{shownList};
+use header::EDITION_1985;
 use reel::Step;
 use text::Columns;
 use text::TextAnswer;
@@ -32,7 +33,7 @@ fn read_columns(bytes: &[u8]) -> Columns
 {
     Columns {
         number: fields::read_field(bytes, header::RECORD_NUMBER),
-        first_us: times::first_sample_time(bytes),
+        first_us: times::first_sample_time(EDITION_1985, bytes),
         origin: fields::read_field(bytes, header::CLOCK_ORIGIN),
         frequency_uhz: fields::read_field(bytes, header::READBACK),
         frequency_rate_units: frequency_rate::frequency_rate_of(bytes),
@@ -59,13 +60,13 @@ fn write_refusal(out: &mut [u8], at: usize, refusal: u8) -> usize
 
 // The lines of the records from place 0 on, and that of the refusal that ends them.
 fn write_walk(out: &mut [u8], at: usize, reel: &[u8]) -> usize
-    requires { ⌜ Room (now out) at (walkText (walk (now reel))) ⌝ }
-    ensures { λ r. ⌜ Written (now (out .entry)) at (walkText (walk (now (reel .entry)))) r (now (out .exit)) ⌝ }
+    requires { ⌜ Room (now out) at (walkText (walk 1985 (now reel))) ⌝ }
+    ensures { λ r. ⌜ Written (now (out .entry)) at (walkText (walk 1985 (now (reel .entry)))) r (now (out .exit)) ⌝ }
 {
     let mut next = at;
     let mut place: usize = 0;
     loop {
-        match reel::step_by_reader(reel, place) {
+        match reel::step_by_reader(EDITION_1985, reel, place) {
             Step::Record { start, end } => {
                 next = write_record(out, next, &reel[start..end]);
                 place = end;
@@ -117,7 +118,7 @@ pub fn record_line(bytes: &[u8], out: &mut [u8]) -> ListAnswer
     ensures { λ r. ⌜ shownList r ≡ lineAnswer (now (bytes .entry)) (now (out .entry)) ⌝ }
     ensures { λ _. ⌜ now (out .exit) ≡ lineAfter (now (bytes .entry)) (now (out .entry)) ⌝ }
 {
-    let refusal = record::refusal_of(bytes);
+    let refusal = record::refusal_of(EDITION_1985, bytes);
     if refusal != 0 {
         return ListAnswer::Refused(refusal);
     }

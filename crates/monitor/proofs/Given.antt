@@ -4,13 +4,12 @@ use Prim.Native.Nat.{ℕ, _*_, _≤_, _<_}
 use mathlib.Core.Path.{_≡_, refl}
 use mathlib.Core.Bool.{Bool, true, false, cond, not, _&&_}
 use mathlib.Core.List.{List, [], _∷_}
-use mathlib.Core.Logic.{⊎-elim}
 use native.Mathlib.Omega.{arith}
 use lib.Dec.{eqb}
 use lib.ListN.{length, length-take, length-drop}
 use borrow.Author.Tests.{eqb-true, eqb-false}
-use Rattle.lists.proofs.Order.{le-or-lt}
 use Rattle.answers.specs.Answer.{Answer, accepted, refused}
+use Rattle.header.specs.Edition.{noSegments}
 use Rattle.record.specs.Record.{recordRefusal}
 use Rattle.answers.specs.Refusal.{_when_, first, _then_}
 use Rattle.answers.proofs.Refusals.{then-zero, none-applies}
@@ -24,66 +23,63 @@ use Rattle.monitor.proofs.Monitor.{last-sample-word-facts}
 words-few : (row : ℕ) → row < segmentCount → wordCount (segmentAt row) ≤ mostWords
 words-few row h = sound-words row h .few
 
-module _ (b : List ℕ) (row : ℕ) (inside : row < segmentCount) where
-  bytes-few : length (segmentBytes b row) ≤ 2 * mostWords
+module _ (n : ℕ) (b : List ℕ) (row : ℕ) (inside : row < segmentCount) where
+  bytes-few : length (segmentBytes n b row) ≤ 2 * mostWords
   unfolding segmentBytes
   bytes-few = simp length-take (omega (arith, words-few row inside))
 
-  bytes-some : recordRefusal b ≡ 0 → 0 < length (segmentBytes b row)
+  bytes-some : recordRefusal n b ≡ 0 → noSegments n ≡ false → 0 < length (segmentBytes n b row)
   unfolding segmentBytes
-  bytes-some e =
+  bytes-some e has =
       let w = sound-words row inside in
-      let f = last-sample-word-facts b e in
+      let f = last-sample-word-facts n b e has in
       simp (length-take, length-drop) (omega (arith, w .some, w .order, w .end, f .1))
 
 -- ## by the refusal
 
-module _ (this earlier : List ℕ) (number : ℕ) where
+module _ (n : ℕ) (this earlier : List ℕ) (number : ℕ) where
   abbrev row : ℕ
   row = segmentRow number
 
   abbrev chosen : List ℕ
-  chosen = cond (isNew this row) (segmentBytes this row) (segmentBytes earlier row)
+  chosen = cond (isNew n this row) (segmentBytes n this row) (segmentBytes n earlier row)
 
   abbrev refusal : ℕ
-  refusal = rowRefusal this earlier row
+  refusal = rowRefusal n this earlier row
 
-  -- where there is none, both records are accepted and the number is a segment's
+  -- where there is none, both records are accepted, the edition has segments and the number is a segment's
   module _ (none : refusal ≡ 0) where
-    records : (recordRefusal this ≡ 0) × (recordRefusal earlier ≡ 0) × (row < segmentCount)
+    records : (recordRefusal n this ≡ 0) × (recordRefusal n earlier ≡ 0) × (noSegments n ≡ false) × (row < segmentCount)
     records =
-        let rest = first (20 when isNoRow row ∷ 23 when (not (isNew this row) && not (isNew earlier row)) ∷ []) in
-        let p = then-zero (recordRefusal this) (recordRefusal earlier then rest) none in
-        let q = then-zero (recordRefusal earlier) rest (p .1) in
-        let known = none-applies (20 when isNoRow row ∷ 23 when (not (isNew this row) && not (isNew earlier row)) ∷ []) 0 tt
-        (q .1) in
-        (p .0, q .0, below (row-most number) (eqb-false row segmentCount known))
-      where
-        below : {n : ℕ} → n ≤ segmentCount → (n ≡ segmentCount → ⊥) → n < segmentCount
-        below {n} h k = ⊎-elim (λ p. absurd (k (omega (arith, p, h)))) (λ p. p) (le-or-lt segmentCount n)
+        let tests =
+        26 when noSegments n ∷ 20 when isNoRow row ∷ 23 when (not (isNew n this row) && not (isNew n earlier row)) ∷ [] in
+        let p = then-zero (recordRefusal n this) (recordRefusal n earlier then first tests) none in
+        let q = then-zero (recordRefusal n earlier) (first tests) (p .1) in
+        let known = none-applies tests 1 tt (q .1) in
+        (p .0, q .0, none-applies tests 0 tt (q .1), omega (arith, row-most number, eqb-false row segmentCount known))
 
-    by-new : (t : Bool) → 0 < length (cond t (segmentBytes this row) (segmentBytes earlier row))
-    by-new true = bytes-some this row (records .2) (records .0)
-    by-new false = bytes-some earlier row (records .2) (records .1)
+    by-new : (t : Bool) → 0 < length (cond t (segmentBytes n this row) (segmentBytes n earlier row))
+    by-new true = bytes-some n this row (records .3) (records .0) (records .2)
+    by-new false = bytes-some n earlier row (records .3) (records .1) (records .2)
 
-    few-by-new : (t : Bool) → length (cond t (segmentBytes this row) (segmentBytes earlier row)) ≤ 2 * mostWords
-    few-by-new true = bytes-few this row (records .2)
-    few-by-new false = bytes-few earlier row (records .2)
+    few-by-new : (t : Bool) → length (cond t (segmentBytes n this row) (segmentBytes n earlier row)) ≤ 2 * mostWords
+    few-by-new true = bytes-few n this row (records .3)
+    few-by-new false = bytes-few n earlier row (records .3)
 
   abbrev by : Bool → Answer (List ℕ)
   by t = cond t (accepted chosen) (refused [] refusal)
 
   -- no refusal: there are bytes
-  pub some-given : segmentAnswer this earlier number .number ≡ 0 → 0 < length (segmentAnswer this earlier number .value)
+  pub some-given : segmentAnswer n this earlier number .number ≡ 0 → 0 < length (segmentAnswer n this earlier number .value)
   unfolding segmentAnswer
   some-given e = by-test (eqb refusal 0) refl e
     where
       by-test : (t : Bool) → eqb refusal 0 ≡ t → by t .number ≡ 0 → 0 < length (by t .value)
-      by-test true a z = by-new (eqb-true refusal 0 a) (isNew this row)
+      by-test true a z = by-new (eqb-true refusal 0 a) (isNew n this row)
       by-test false a z = absurd (eqb-false refusal 0 a z)
 
   -- a refusal: there are none
-  pub none-given : (segmentAnswer this earlier number .number ≡ 0 → ⊥) → segmentAnswer this earlier number .value ≡ []
+  pub none-given : (segmentAnswer n this earlier number .number ≡ 0 → ⊥) → segmentAnswer n this earlier number .value ≡ []
   unfolding segmentAnswer
   none-given e = by-test (eqb refusal 0) e
     where
@@ -92,10 +88,10 @@ module _ (this earlier : List ℕ) (number : ℕ) where
       by-test false k = refl
 
   -- no segment has more than 45 words
-  pub at-most : length (segmentAnswer this earlier number .value) ≤ 2 * mostWords
+  pub at-most : length (segmentAnswer n this earlier number .value) ≤ 2 * mostWords
   unfolding segmentAnswer
   at-most = by-test (eqb refusal 0) refl
     where
       by-test : (t : Bool) → eqb refusal 0 ≡ t → length (by t .value) ≤ 2 * mostWords
-      by-test true a = few-by-new (eqb-true refusal 0 a) (isNew this row)
+      by-test true a = few-by-new (eqb-true refusal 0 a) (isNew n this row)
       by-test false a = omega arith

@@ -5,8 +5,11 @@ use mathlib.Core.List.{List, [], _∷_}
 use lib.Dec.{eqb, leb, ltb}
 use lib.ListN.{length, getD}
 use Rattle.lists.specs.Tests.{all}
-use Rattle.sample_rates.specs.Rates.{monitorWords}
 use Rattle.monitor.specs.declared.SegmentWords.{SegmentWords}
+
+-- the words after the samples, in an edition that has segments
+abbrev pub monitorWords : ℕ
+monitorWords = 150
 
 -- a row: the first and the last word, both counted from 1 after N, and the segment's number
 infixl 20 words_to_segment_

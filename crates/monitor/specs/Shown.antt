@@ -13,20 +13,20 @@ use Rattle.monitor.specs.Monitor.{isNew, segmentBytes}
 abbrev pub part : ℕ → ℕ → List ℕ → List ℕ
 part start end b = take (end - start) (drop start b)
 
--- a stretch is that of the segment of a row in the record b
-pub record StretchOf (b : List ℕ) (row : ℕ) (s : Stretch) : Type 0 where
+-- a stretch is that of the segment of a row in the record b of the edition n
+pub record StretchOf (n : ℕ) (b : List ℕ) (row : ℕ) (s : Stretch) : Type 0 where
   pub order : s .start ≤ s .end
   pub inside : s .end ≤ length b
-  pub bytes : part (s .start) (s .end) b ≡ segmentBytes b row
-  pub new : s .new ≡ isNew b row
+  pub bytes : part (s .start) (s .end) b ≡ segmentBytes n b row
+  pub new : s .new ≡ isNew n b row
 
 abbrev pub shownPlace : Place → List ℕ → List ℕ → Answer (List ℕ)
 shownPlace (This start end) this earlier = accepted (part start end this)
 shownPlace (Earlier start end) this earlier = accepted (part start end earlier)
-shownPlace (Refused n) this earlier = refused [] n
+shownPlace (Refused k) this earlier = refused [] k
 
 -- a place lies inside the record that it names
 abbrev pub Inside : Place → List ℕ → List ℕ → Type 0
 Inside (This start end) this earlier = (start ≤ end) × (end ≤ length this)
 Inside (Earlier start end) this earlier = (start ≤ end) × (end ≤ length earlier)
-Inside (Refused n) this earlier = Unit
+Inside (Refused k) this earlier = Unit

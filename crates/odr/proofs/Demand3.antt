@@ -13,6 +13,7 @@ use mathlib.Core.List.{List}
 use Rattle.answers.specs.Answer.{accepted, told}
 use Rattle.answers.proofs.Refusals.{given-value}
 use Rattle.index_model.specs.declared.Opening.{Opening}
+use Rattle.index_model.specs.Records.{Record}
 use Rattle.index_model.specs.Opening.{openingOf, noOpening, openRefusal, openAnswer, opened}
 use Rattle.index_model.specs.Ledger.{Call, noRecords}
 use Rattle.index_model.specs.Calls.{consistencyAnswer}
@@ -25,7 +26,7 @@ use Rattle.index_means.specs.OfLedger.{ledgerMeansAnswer}
 use Rattle.index_means.proofs.History.{ByLedger, means-of-history}
 use Rattle.c_answers.specs.declared.OpenOut.{OpenOut}
 
-module _ (pattern : List ℕ) (F C R : ℕ) (c : Buffers)
+module _ (pattern : Record) (F C R : ℕ) (c : Buffers)
     (r : OpenOut) (promised : told (r .refusal) (r .opening) ≡ openAnswer pattern F C R c) (none : r .refusal
     ≡ 0) (calls : List Call) where
   given : (openRefusal pattern F C R c ≡ 0) × (r .opening ≡ openingOf pattern F C R)

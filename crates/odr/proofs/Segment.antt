@@ -8,6 +8,6 @@ use Rattle.c_answers.proofs.Segment.{room-for-segment}
 use Rattle.odr.specs.declared.SegmentOut.{SegmentOut}
 use Rattle.odr.specs.Out.{SegmentTold}
 
-pub segment-whole : (this earlier : List ℕ) (number : ℕ) (r : SegmentOut) → SegmentTold r (segmentAnswer this earlier number)
-    → take (r .length) (r .bytes) ≡ segmentAnswer this earlier number .value
-segment-whole this earlier number r told = (λ i. take (told .size i) (told .bytes i)) ∙ room-for-segment this earlier number
+pub segment-whole : (n : ℕ) (this earlier : List ℕ) (number : ℕ) (r : SegmentOut) → SegmentTold r (segmentAnswer n this earlier number)
+    → take (r .length) (r .bytes) ≡ segmentAnswer n this earlier number .value
+segment-whole n this earlier number r told = (λ i. take (told .size i) (told .bytes i)) ∙ room-for-segment n this earlier number

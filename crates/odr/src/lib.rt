@@ -1,10 +1,10 @@
 // The library for C and Rust, as c/odr.h declares it. Each call takes any input and answers as the call that it hands on to.
 // Numbers come back in structs by value, and what opening returned goes in by value, so no buffer of numbers can be too short;
-// beside a refusal every other member is 0 (crate `c_answers`).
+// beside a refusal every other member is 0 (crate `c_answers`). An edition is named by its number, just before what it is about.
 ghost use mathlib.Core.Path.{_≡_};
 ghost use lib.ListN.{length};
 ghost use Rattle.answers.specs.Answer.{told};
-ghost use Rattle.sample_rates.specs.Answer.{rateLineOut};
+ghost use Rattle.editions.specs.Answer.{rateLineOut};
 ghost use Rattle.record.specs.Record.{recordRefusal, headerAnswer, writeRefusal, afterWriting};
 ghost use Rattle.frequency_rate.specs.FrequencyRate.{frequencyRateAnswer};
 ghost use Rattle.samples.specs.InOut.{samplesRefusal, channelAfter, recordAfter};
@@ -13,6 +13,7 @@ ghost use Rattle.times.specs.SampleTime.{timeAnswer};
 ghost use Rattle.times.specs.Phases.{phaseAnswer};
 ghost use Rattle.monitor.specs.Monitor.{segmentAnswer};
 ghost use Rattle.reel.specs.Reel.{stepAt};
+ghost use Rattle.index_model.specs.Records.{inEdition};
 ghost use Rattle.index_model.specs.Buffers.{lent};
 ghost use Rattle.index_model.specs.Opening.{openAnswer, opened};
 ghost use Rattle.index_model.specs.Calls.{insertRefusal, inserted, removeRefusal, removed, queryAnswer, consistencyAnswer};
@@ -29,11 +30,11 @@ use c_answers::PhasesOut;
 use c_answers::StepOut;
 use c_answers::TextOut;
 use c_answers::TimeOut;
+use editions::RateLineAnswer;
 use header::FIELD_COUNT;
 use index_means::MeansAnswer;
 use index_model::Opening;
 use index_query::SecondAnswer;
-use sample_rates::RateLineAnswer;
 use samples::TotalsAnswer;
 
 // The segment's bytes are the first `length` ones; 0 follows.
@@ -46,124 +47,131 @@ pub struct SegmentOut {
 
 // ## Records
 
-// The refusal of the bytes as a record, 1 to 11; 0 where they are accepted.
+// The refusal of the bytes as a record of the edition, 25 or 1 to 11; 0 where they are accepted.
 #[no_mangle]
-pub extern "C" fn odr_refusal(bytes: &[u8]) -> u8
-    ensures { λ r. ⌜ r ≡ recordRefusal (now (bytes .entry)) ⌝ }
+pub extern "C" fn odr_refusal(edition: u64, bytes: &[u8]) -> u8
+    ensures { λ r. ⌜ r ≡ recordRefusal edition (now (bytes .entry)) ⌝ }
 {
-    record::refusal_of(bytes)
+    record::refusal_of(edition, bytes)
 }
 
 // What follows from a sample rate: the samples a channel has in a record, the records of a second, the microseconds from a
-// sample to the next. 5 for a number that is no rate.
+// sample to the next. 25; 5 for a number that is no rate of the edition.
 #[no_mangle]
-pub extern "C" fn odr_sample_rate(hz: u64) -> RateLineAnswer
-    ensures { λ r. ⌜ r ≡ rateLineOut hz ⌝ }
+pub extern "C" fn odr_sample_rate(edition: u64, hz: u64) -> RateLineAnswer
+    ensures { λ r. ⌜ r ≡ rateLineOut edition hz ⌝ }
 {
-    sample_rates::rate_line(hz)
+    editions::rate_line(edition, hz)
 }
 
-// The values of a record's header, into the array lent. They go there as they are read: an answer by value would copy them.
+// The values of a record's header, in the order of the edition's table, into the array lent. They go there as they are read: an answer by value would copy them.
 #[no_mangle]
-pub extern "C" fn odr_read_header(bytes: &[u8], values: &mut [u64; FIELD_COUNT]) -> u8
-    ensures { λ r. ⌜ r ≡ headerAnswer (now (bytes .entry)) .number ⌝ }
-    ensures { λ _. ⌜ now (values .exit) ≡ valueOr (now (values .entry)) (headerAnswer (now (bytes .entry))) ⌝ }
+pub extern "C" fn odr_read_header(edition: u64, bytes: &[u8], values: &mut [u64; FIELD_COUNT]) -> u8
+    ensures { λ r. ⌜ r ≡ headerAnswer edition (now (bytes .entry)) .number ⌝ }
+    ensures { λ _. ⌜ now (values .exit) ≡ valueOr (now (values .entry)) (headerAnswer edition (now (bytes .entry))) ⌝ }
 {
-    let refusal = record::refusal_of(bytes);
+    let refusal = record::refusal_of(edition, bytes);
     if refusal != 0 {
         return refusal;
     }
-    header::read_into(bytes, values);
+    header::read_into(edition, bytes, values);
     0
 }
 
-// The values go into the header of the record; every other bit stays.
+// The values, taken for those of the edition, go into the header of the record; every other bit stays.
 #[no_mangle]
-pub extern "C" fn odr_write_header(bytes: &mut [u8], values: &[u64; FIELD_COUNT]) -> u8
-    ensures { λ r. ⌜ r ≡ writeRefusal (length (now (bytes .entry))) (now (values .entry)) ⌝ }
-    ensures { λ _. ⌜ now (bytes .exit) ≡ afterWriting (now (bytes .entry)) (now (values .entry)) ⌝ }
+pub extern "C" fn odr_write_header(
+    edition: u64,
+    bytes: &mut [u8],
+    values: &[u64; FIELD_COUNT],
+) -> u8
+    ensures { λ r. ⌜ r ≡ writeRefusal edition (length (now (bytes .entry))) (now (values .entry)) ⌝ }
+    ensures { λ _. ⌜ now (bytes .exit) ≡ afterWriting edition (now (bytes .entry)) (now (values .entry)) ⌝ }
 {
-    record::write_header(bytes, *values)
+    record::write_header(edition, bytes, *values)
 }
 
 // The frequency rate of a record, in units of 0.00001 Hz/s.
 #[no_mangle]
-pub extern "C" fn odr_frequency_rate(bytes: &[u8]) -> FrequencyRateOut
-    ensures { λ r. ⌜ told (r .refusal) (r .units) ≡ frequencyRateAnswer (now (bytes .entry)) ⌝ }
+pub extern "C" fn odr_frequency_rate(edition: u64, bytes: &[u8]) -> FrequencyRateOut
+    ensures { λ r. ⌜ told (r .refusal) (r .units) ≡ frequencyRateAnswer edition (now (bytes .entry)) ⌝ }
 {
-    c_answers::frequency_rate_out(frequency_rate::frequency_rate(bytes))
+    c_answers::frequency_rate_out(frequency_rate::frequency_rate(edition, bytes))
 }
 
 // The time of sample k of a record, in microseconds of the day.
 #[no_mangle]
-pub extern "C" fn odr_sample_time(bytes: &[u8], k: u64) -> TimeOut
-    ensures { λ r. ⌜ told (r .refusal) (r .microseconds) ≡ timeAnswer (now (bytes .entry)) k ⌝ }
+pub extern "C" fn odr_sample_time(edition: u64, bytes: &[u8], k: u64) -> TimeOut
+    ensures { λ r. ⌜ told (r .refusal) (r .microseconds) ≡ timeAnswer edition (now (bytes .entry)) k ⌝ }
 {
-    c_answers::time_out(times::sample_time(bytes, k))
+    c_answers::time_out(times::sample_time(edition, bytes, k))
 }
 
 // The two phases of a record, in cycles.
 #[no_mangle]
-pub extern "C" fn odr_phases(bytes: &[u8]) -> PhasesOut
-    ensures { λ r. ⌜ PhasesTold r (phaseAnswer (now (bytes .entry))) ⌝ }
+pub extern "C" fn odr_phases(edition: u64, bytes: &[u8]) -> PhasesOut
+    ensures { λ r. ⌜ PhasesTold r (phaseAnswer edition (now (bytes .entry))) ⌝ }
 {
-    c_answers::phases_out(times::phases(bytes))
+    c_answers::phases_out(times::phases(edition, bytes))
 }
 
 // The samples of a record, out to the buffers of channels 1 to 4.
 #[no_mangle]
 pub extern "C" fn odr_read_samples(
+    edition: u64,
     bytes: &[u8],
     one: &mut [i8],
     two: &mut [i8],
     three: &mut [i8],
     four: &mut [i8],
 ) -> u8
-    ensures { λ r. ⌜ r ≡ samplesRefusal (now (bytes .entry)) (length (now (one .entry))) (length (now (two .entry))) (length (now (three .entry))) (length (now (four .entry))) ⌝ }
-    ensures { λ r. ⌜ now (one .exit) ≡ channelAfter r (now (bytes .entry)) 1 (now (one .entry)) ⌝ }
-    ensures { λ r. ⌜ now (two .exit) ≡ channelAfter r (now (bytes .entry)) 2 (now (two .entry)) ⌝ }
-    ensures { λ r. ⌜ now (three .exit) ≡ channelAfter r (now (bytes .entry)) 3 (now (three .entry)) ⌝ }
-    ensures { λ r. ⌜ now (four .exit) ≡ channelAfter r (now (bytes .entry)) 4 (now (four .entry)) ⌝ }
+    ensures { λ r. ⌜ r ≡ samplesRefusal edition (now (bytes .entry)) (length (now (one .entry))) (length (now (two .entry))) (length (now (three .entry))) (length (now (four .entry))) ⌝ }
+    ensures { λ r. ⌜ now (one .exit) ≡ channelAfter r edition (now (bytes .entry)) 1 (now (one .entry)) ⌝ }
+    ensures { λ r. ⌜ now (two .exit) ≡ channelAfter r edition (now (bytes .entry)) 2 (now (two .entry)) ⌝ }
+    ensures { λ r. ⌜ now (three .exit) ≡ channelAfter r edition (now (bytes .entry)) 3 (now (three .entry)) ⌝ }
+    ensures { λ r. ⌜ now (four .exit) ≡ channelAfter r edition (now (bytes .entry)) 4 (now (four .entry)) ⌝ }
 {
-    samples::read_samples(bytes, one, two, three, four)
+    samples::read_samples(edition, bytes, one, two, three, four)
 }
 
 // The samples of channels 1 to 4, into the sample stretch of a record.
 #[no_mangle]
 pub extern "C" fn odr_write_samples(
+    edition: u64,
     bytes: &mut [u8],
     one: &[i8],
     two: &[i8],
     three: &[i8],
     four: &[i8],
 ) -> u8
-    ensures { λ r. ⌜ r ≡ samplesRefusal (now (bytes .entry)) (length (now (one .entry))) (length (now (two .entry))) (length (now (three .entry))) (length (now (four .entry))) ⌝ }
-    ensures { λ r. ⌜ now (bytes .exit) ≡ recordAfter r (now (bytes .entry)) (now (one .entry)) (now (two .entry)) (now (three .entry)) (now (four .entry)) ⌝ }
+    ensures { λ r. ⌜ r ≡ samplesRefusal edition (now (bytes .entry)) (length (now (one .entry))) (length (now (two .entry))) (length (now (three .entry))) (length (now (four .entry))) ⌝ }
+    ensures { λ r. ⌜ now (bytes .exit) ≡ recordAfter r edition (now (bytes .entry)) (now (one .entry)) (now (two .entry)) (now (three .entry)) (now (four .entry)) ⌝ }
 {
-    samples::write_samples(bytes, one, two, three, four)
+    samples::write_samples(edition, bytes, one, two, three, four)
 }
 
 // The totals of a record's samples, for each channel.
 #[no_mangle]
-pub extern "C" fn odr_totals(bytes: &[u8]) -> TotalsAnswer
-    ensures { λ r. ⌜ shownTotals r ≡ totalsAnswer (now (bytes .entry)) ⌝ }
+pub extern "C" fn odr_totals(edition: u64, bytes: &[u8]) -> TotalsAnswer
+    ensures { λ r. ⌜ shownTotals r ≡ totalsAnswer edition (now (bytes .entry)) ⌝ }
 {
-    samples::record_totals(bytes)
+    samples::record_totals(edition, bytes)
 }
 
-// The bytes of a monitor segment, from this record or from the earlier one.
+// The bytes of a monitor segment, from this record or from the earlier one, both of the edition.
 #[no_mangle]
 pub extern "C" fn odr_segment<'a>(
+    edition: u64,
     this_record: &'a [u8],
     earlier: &'a [u8],
     number: u64,
 ) -> SegmentOut
-    ensures { λ r. ⌜ SegmentTold r (segmentAnswer (now («this_record» .entry)) (now (earlier .entry)) number) ⌝ }
+    ensures { λ r. ⌜ SegmentTold r (segmentAnswer edition (now («this_record» .entry)) (now (earlier .entry)) number) ⌝ }
 {
-    let segment = monitor::segment(this_record, earlier, number);
+    let segment = monitor::segment(edition, this_record, earlier, number);
     let bytes = c_answers::segment_bytes(segment);
     SegmentOut {
-        refusal: monitor::segment_refusal(this_record, earlier, number),
+        refusal: monitor::segment_refusal(edition, this_record, earlier, number),
         length: segment.len(),
         bytes,
     }
@@ -171,19 +179,21 @@ pub extern "C" fn odr_segment<'a>(
 
 // ## Reels
 
-// What stands at a place of a reel: a record's start and end, 255 at the end of the reel, or the refusal.
+// What stands at a place of a reel of the edition: a record's start and end, 255 at the end of the reel, or the refusal, of which
+// 25 comes before that end.
 #[no_mangle]
-pub extern "C" fn odr_step(reel: &[u8], place: usize) -> StepOut
-    ensures { λ r. ⌜ StepTold r (stepAt (now (reel .entry)) place) ⌝ }
+pub extern "C" fn odr_step(edition: u64, reel: &[u8], place: usize) -> StepOut
+    ensures { λ r. ⌜ StepTold r (stepAt edition (now (reel .entry)) place) ⌝ }
 {
-    c_answers::step_out(reel::step_by_reader(reel, place))
+    c_answers::step_out(reel::step_by_reader(edition, reel, place))
 }
 
 // ## The index of seconds
 
-// Opens an index by a pattern record: the cells of R rows and of C seconds become 0.
+// Opens an index by a pattern record of the edition: the cells of R rows and of C seconds become 0.
 #[no_mangle]
 pub extern "C" fn odr_open(
+    edition: u64,
     pattern: &[u8],
     first_second: u64,
     second_count: u64,
@@ -191,11 +201,12 @@ pub extern "C" fn odr_open(
     rows: &mut [u32],
     seconds: &mut [u32],
 ) -> OpenOut
-    ensures { λ r. ⌜ told (r .refusal) (r .opening) ≡ openAnswer (now (pattern .entry)) «first_second» «second_count» «highest_number» (lent (now (rows .entry)) (now (seconds .entry))) ⌝ }
-    ensures { λ _. ⌜ now (rows .exit) ≡ opened (now (pattern .entry)) «first_second» «second_count» «highest_number» (lent (now (rows .entry)) (now (seconds .entry))) .rows ⌝ }
-    ensures { λ _. ⌜ now (seconds .exit) ≡ opened (now (pattern .entry)) «first_second» «second_count» «highest_number» (lent (now (rows .entry)) (now (seconds .entry))) .seconds ⌝ }
+    ensures { λ r. ⌜ told (r .refusal) (r .opening) ≡ openAnswer (inEdition edition (now (pattern .entry))) «first_second» «second_count» «highest_number» (lent (now (rows .entry)) (now (seconds .entry))) ⌝ }
+    ensures { λ _. ⌜ now (rows .exit) ≡ opened (inEdition edition (now (pattern .entry))) «first_second» «second_count» «highest_number» (lent (now (rows .entry)) (now (seconds .entry))) .rows ⌝ }
+    ensures { λ _. ⌜ now (seconds .exit) ≡ opened (inEdition edition (now (pattern .entry))) «first_second» «second_count» «highest_number» (lent (now (rows .entry)) (now (seconds .entry))) .seconds ⌝ }
 {
     c_answers::open_out(index_open::open(
+        edition,
         pattern,
         first_second,
         second_count,
@@ -205,19 +216,20 @@ pub extern "C" fn odr_open(
     ))
 }
 
-// Inserts a record under its number, in place of any there.
+// Inserts a record of the edition under its number, in place of any there.
 #[no_mangle]
 pub extern "C" fn odr_insert(
     opening: Opening,
+    edition: u64,
     bytes: &[u8],
     rows: &mut [u32],
     seconds: &mut [u32],
 ) -> u8
-    ensures { λ r. ⌜ r ≡ insertRefusal opening (now (bytes .entry)) (lent (now (rows .entry)) (now (seconds .entry))) ⌝ }
-    ensures { λ _. ⌜ now (rows .exit) ≡ inserted opening (now (bytes .entry)) (lent (now (rows .entry)) (now (seconds .entry))) .rows ⌝ }
-    ensures { λ _. ⌜ now (seconds .exit) ≡ inserted opening (now (bytes .entry)) (lent (now (rows .entry)) (now (seconds .entry))) .seconds ⌝ }
+    ensures { λ r. ⌜ r ≡ insertRefusal opening (inEdition edition (now (bytes .entry))) (lent (now (rows .entry)) (now (seconds .entry))) ⌝ }
+    ensures { λ _. ⌜ now (rows .exit) ≡ inserted opening (inEdition edition (now (bytes .entry))) (lent (now (rows .entry)) (now (seconds .entry))) .rows ⌝ }
+    ensures { λ _. ⌜ now (seconds .exit) ≡ inserted opening (inEdition edition (now (bytes .entry))) (lent (now (rows .entry)) (now (seconds .entry))) .seconds ⌝ }
 {
-    index_update::insert(opening, bytes, rows, seconds)
+    index_update::insert(opening, edition, bytes, rows, seconds)
 }
 
 // Removes the record of a number.

@@ -13,7 +13,7 @@ use lib.Ieee.Back.{round-whole}
 use lib.Ieee.Digits.{back}
 use Rattle.floats.specs.Whole.{exactLimit, quotientOf}
 use Rattle.floats.proofs.Quotient.{div-value}
-use Rattle.phase.specs.Phase.{phaseOf}
+use Rattle.phase.specs.Phase.{phaseOf, InCycles}
 
 -- the divisor is 2 ^ k
 power-value : (k : ℕ) → HasValue (fin false 1 (pos k)) false (2 ^ k) 1
@@ -36,9 +36,7 @@ exact k n hk hn =
     ∙ sym (mul-assoc n (2 ^ (1074 - k)) (2 ^ k)))
 
 -- both, for a count of 48 bits
-pub of-count : (k n : ℕ) → k ≤ 1074 → n < 2 ^ 48
-    → (div binary64 (ofInt binary64 (pos n)) (fin false 1 (pos k)) ≡ phaseOf k n)
-    × HasValue (div binary64 (ofInt binary64 (pos n)) (fin false 1 (pos k))) false n (2 ^ k)
+pub of-count : (k n : ℕ) → k ≤ 1074 → n < 2 ^ 48 → InCycles k n (div binary64 (ofInt binary64 (pos n)) (fin false 1 (pos k)))
 of-count k n hk hn =
     let q = quotient k n (omega arith) in
     (q, subst (λ (x : Float). HasValue x false n (2 ^ k)) (sym q) (exact k n hk (omega arith)))

@@ -10,20 +10,20 @@ use Rattle.lists.proofs.Truth.{held}
 use Rattle.fields.specs.Field.{valueOf, decimalFits, binaryFits}
 use Rattle.fields.specs.Table.{readAll, allDigitsGood, allFit}
 use Rattle.fields.proofs.Tables.{values-fit}
-use Rattle.header.specs.Format.{headerBytes, fields1985}
-use Rattle.sample_rates.specs.Rates.{monitorWords}
+use Rattle.header.specs.Edition.{fieldsOf, headerBytes, monitorWordsOf}
+use Rattle.header.proofs.Sound.{fields-sound}
 use Rattle.checks.specs.Checks.{judgedOf}
 use Rattle.checks.proofs.Accepted.{Accepted, accepted-facts}
 use Rattle.record.specs.Record.{recordRefusal}
 use Rattle.record.specs.Stretch.{recordRate, sampleCount}
 
-module _ (b : List ℕ) (e : recordRefusal b ≡ 0) where
-  pub record-facts : Accepted (judgedOf (length b) (λ f. valueOf f b) (allDigitsGood fields1985 b))
+module _ (n : ℕ) (b : List ℕ) (e : recordRefusal n b ≡ 0) where
+  pub record-facts : Accepted n (judgedOf n (length b) (λ f. valueOf f b) (allDigitsGood (fieldsOf n) b))
   unfolding recordRefusal
-  record-facts = accepted-facts (judgedOf (length b) (λ f. valueOf f b) (allDigitsGood fields1985 b)) e
+  record-facts = accepted-facts n (judgedOf n (length b) (λ f. valueOf f b) (allDigitsGood (fieldsOf n) b)) e
 
   -- the sample stretch and the monitor words after it lie within the record
-  pub stretch-inside : headerBytes + 4 * sampleCount b + 2 * monitorWords ≤ length b
+  pub stretch-inside : headerBytes n + 4 * sampleCount n b + 2 * monitorWordsOf n ≤ length b
   unfolding recordRate
   stretch-inside =
       let f = record-facts in
@@ -32,6 +32,7 @@ module _ (b : List ℕ) (e : recordRefusal b ≡ 0) where
       (f .size)
 
   -- every value fits its field
-  pub values-small : T (allFit decimalFits fields1985 (readAll fields1985 b))
-      × T (allFit binaryFits fields1985 (readAll fields1985 b))
-  values-small = values-fit fields1985 b (held (allDigitsGood fields1985 b) (record-facts .good))
+  pub values-small : T (allFit decimalFits (fieldsOf n) (readAll (fieldsOf n) b))
+      × T (allFit binaryFits (fieldsOf n) (readAll (fieldsOf n) b))
+  values-small =
+      values-fit (8 * headerBytes n) (fieldsOf n) b (fields-sound n) (held (allDigitsGood (fieldsOf n) b) (record-facts .good))

@@ -5,14 +5,14 @@ use mathlib.Core.List.{List}
 use mathlib.Core.Logic.{⊎-elim}
 use native.Mathlib.Omega.{arith}
 use Rattle.fields.specs.Field.{valueOf}
-use Rattle.header.specs.Rows.{sampleRate}
+use Rattle.header.specs.Edition.{sampleRate}
 use Rattle.sample_rates.specs.declared.SampleRate.{SampleRate}
 use Rattle.sample_rates.specs.Rates.{samplesPerRecord, mostSamples}
-use Rattle.sample_rates.proofs.Lines.{rate-line}
+use Rattle.editions.proofs.Lines.{rate-line}
 use Rattle.record.specs.Stretch.{recordRate, sampleCount}
 
-pub count-small : (b : List ℕ) → sampleCount b ≤ mostSamples
+pub count-small : (n : ℕ) (b : List ℕ) → sampleCount n b ≤ mostSamples
 unfolding recordRate
-count-small b =
+count-small n b =
     ⊎-elim (λ e. subst (λ (l : SampleRate). samplesPerRecord l ≤ mostSamples) (sym e) (omega arith)) (λ l. l .most)
-    (rate-line (valueOf sampleRate b))
+    (rate-line n (valueOf (sampleRate n) b))

@@ -1,18 +1,18 @@
-// Records of 1985: which are accepted, their header read and written, and their samples' stretch. FORMAT, "The record", "Refusal
+// Records of an edition: which are accepted, their header read and written, and their samples' stretch. FORMAT, "The record", "Refusal
 // numbers". Every public function takes any bytes; a refusal is a number, and 0 is none.
 ghost use mathlib.Core.Path.{_≡_};
 ghost use Prim.Native.Nat.{_≤_};
 ghost use lib.ListN.{length};
 ghost use Rattle.fields.specs.Field.{valueOf, decimalFits};
 ghost use Rattle.fields.specs.Table.{allDigitsGood, allFit, valueIn};
-ghost use Rattle.header.specs.Format.{fields1985};
+ghost use Rattle.header.specs.Edition.{sampleRate, syncWord, fieldsOf};
 ghost use Rattle.sample_rates.specs.Rates.{mostSamples};
 ghost use Rattle.checks.specs.Checks.{judgedOf};
 ghost use Rattle.record.specs.Record.{recordRefusal, headerAnswer, shownHeader, writeRefusal, afterWriting};
 ghost use Rattle.record.specs.Stretch.{recordRate, sampleCount, stretchOf};
 use checks::Judged;
+use header::EDITION_1992;
 use header::FIELD_COUNT;
-use header::HEADER_BYTES;
 use sample_rates::SampleRate;
 
 // A header that was read, beside the refusal; with one, every value is 0. An enum cannot hold an array.
@@ -21,9 +21,28 @@ pub struct HeaderAnswer {
     pub values: [u64; FIELD_COUNT],
 }
 
+// What the bytes hold of the two fields that are judged and that each edition has in its own place.
+pub fn sample_rate_in(edition: u64, bytes: &[u8]) -> u64
+    ensures { λ r. ⌜ r ≡ valueOf (sampleRate edition) (now (bytes .entry)) ⌝ }
+{
+    if edition == EDITION_1992 {
+        return fields::read_field(bytes, header::SAMPLE_RATE_1992);
+    }
+    fields::read_field(bytes, header::SAMPLE_RATE_1985)
+}
+
+fn sync_word_in(edition: u64, bytes: &[u8]) -> u64
+    ensures { λ r. ⌜ r ≡ valueOf (syncWord edition) (now (bytes .entry)) ⌝ }
+{
+    if edition == EDITION_1992 {
+        return fields::read_field(bytes, header::SYNC_1992);
+    }
+    fields::read_field(bytes, header::SYNC_1985)
+}
+
 // What 1 to 11 judge of the bytes. Only those fields are read; the digits first, which was measured to be faster.
-fn judged(bytes: &[u8]) -> Judged
-    ensures { λ r. ⌜ r ≡ judgedOf (length (now (bytes .entry))) (λ f. valueOf f (now (bytes .entry))) (allDigitsGood fields1985 (now (bytes .entry))) ⌝ }
+fn judged(edition: u64, bytes: &[u8]) -> Judged
+    ensures { λ r. ⌜ r ≡ judgedOf edition (length (now (bytes .entry))) (λ f. valueOf f (now (bytes .entry))) (allDigitsGood (fieldsOf edition) (now (bytes .entry))) ⌝ }
 {
     let decimals = header::all_digits_good(bytes);
     Judged {
@@ -31,7 +50,7 @@ fn judged(bytes: &[u8]) -> Judged
         length_words: fields::read_field(bytes, header::LENGTH_WORDS),
         conversion: fields::read_field(bytes, header::CONVERSION),
         compression: fields::read_field(bytes, header::COMPRESSION),
-        sample_rate: fields::read_field(bytes, header::SAMPLE_RATE),
+        sample_rate: sample_rate_in(edition, bytes),
         tape_number: fields::read_field(bytes, header::TAPE_NUMBER),
         record_number: fields::read_field(bytes, header::RECORD_NUMBER),
         year: fields::read_field(bytes, header::YEAR),
@@ -40,30 +59,33 @@ fn judged(bytes: &[u8]) -> Judged
         readback_tag: fields::read_field(bytes, header::READBACK_TAG),
         decimals,
         clock_origin: fields::read_field(bytes, header::CLOCK_ORIGIN),
-        sync: fields::read_field(bytes, header::SYNC),
+        sync: sync_word_in(edition, bytes),
     }
 }
 
-// The refusal of the bytes as a record, 1 to 11, or 0 where they are accepted. The length is tested first, so that no field past
-// this test has to be.
-pub fn refusal_of(bytes: &[u8]) -> u8
-    ensures { λ r. ⌜ r ≡ recordRefusal (now (bytes .entry)) ⌝ }
+// The refusal of the bytes as a record of the edition, 25 or 1 to 11, or 0 where they are accepted. The length is tested first, so
+// that no field past this test has to be.
+pub fn refusal_of(edition: u64, bytes: &[u8]) -> u8
+    ensures { λ r. ⌜ r ≡ recordRefusal edition (now (bytes .entry)) ⌝ }
 {
-    if bytes.len() < HEADER_BYTES {
+    if editions::is_unknown(edition) {
+        return 25;
+    }
+    if bytes.len() < editions::header_bytes(edition) {
         return 1;
     }
-    checks::first_check(judged(bytes))
+    checks::first_check(edition, judged(edition, bytes))
 }
 
 // The header of a record.
-pub fn read_header(bytes: &[u8]) -> HeaderAnswer
-    ensures { λ r. ⌜ shownHeader r ≡ headerAnswer (now (bytes .entry)) ⌝ }
+pub fn read_header(edition: u64, bytes: &[u8]) -> HeaderAnswer
+    ensures { λ r. ⌜ shownHeader r ≡ headerAnswer edition (now (bytes .entry)) ⌝ }
 {
-    let refusal = refusal_of(bytes);
+    let refusal = refusal_of(edition, bytes);
     if refusal == 0 {
         return HeaderAnswer {
             refusal: 0,
-            values: header::read_values(bytes),
+            values: header::read_values(edition, bytes),
         };
     }
     HeaderAnswer {
@@ -72,9 +94,9 @@ pub fn read_header(bytes: &[u8]) -> HeaderAnswer
     }
 }
 
-// What 1 to 11 judge of values to be written into this many bytes.
-fn judged_values(bytes: usize, values: [u64; FIELD_COUNT]) -> Judged
-    ensures { λ r. ⌜ r ≡ judgedOf bytes (valueIn fields1985 values) (allFit decimalFits fields1985 values) ⌝ }
+// What 1 to 11 judge of values to be written into this many bytes. The values that are judged have the same places in each edition.
+fn judged_values(edition: u64, bytes: usize, values: [u64; FIELD_COUNT]) -> Judged
+    ensures { λ r. ⌜ r ≡ judgedOf edition bytes (valueIn (fieldsOf edition) values) (allFit decimalFits (fieldsOf edition) values) ⌝ }
 {
     let decimals = header_fits::decimals_fit(values);
     Judged {
@@ -95,49 +117,51 @@ fn judged_values(bytes: usize, values: [u64; FIELD_COUNT]) -> Judged
     }
 }
 
-// The refusal of values to be written into this many bytes, 1 to 11 or 22, or 0.
-fn judge_writing(bytes: usize, values: [u64; FIELD_COUNT]) -> u8
-    ensures { λ r. ⌜ r ≡ writeRefusal bytes values ⌝ }
+// The refusal of values to be written into this many bytes, 25, 1 to 11 or 22, or 0.
+fn judge_writing(edition: u64, bytes: usize, values: [u64; FIELD_COUNT]) -> u8
+    ensures { λ r. ⌜ r ≡ writeRefusal edition bytes values ⌝ }
 {
-    let refusal = checks::first_check(judged_values(bytes, values));
-    let fit = header_fits::binaries_fit(values);
+    let refusal = checks::first_check(edition, judged_values(edition, bytes, values));
+    let fit = header_fits::binaries_fit(edition, values);
     answers::first_refusal(refusal, answers::check(22, !fit, 0))
 }
 
-// The values go into the header of a record of their length. Bits that no field names and all bytes past the header stay.
-pub fn write_header(bytes: &mut [u8], values: [u64; FIELD_COUNT]) -> u8
-    ensures { λ r. ⌜ r ≡ writeRefusal (length (now (bytes .entry))) values ⌝ }
-    ensures { λ r. ⌜ now (bytes .exit) ≡ afterWriting (now (bytes .entry)) values ⌝ }
+// The values go into the header of a record of their length. Bits that no field names and all bytes past the header stay. A list of
+// values has no edition of its own: it is taken for one of the edition named.
+pub fn write_header(edition: u64, bytes: &mut [u8], values: [u64; FIELD_COUNT]) -> u8
+    ensures { λ r. ⌜ r ≡ writeRefusal edition (length (now (bytes .entry))) values ⌝ }
+    ensures { λ r. ⌜ now (bytes .exit) ≡ afterWriting edition (now (bytes .entry)) values ⌝ }
 {
-    let refusal = judge_writing(bytes.len(), values);
+    let refusal = judge_writing(edition, bytes.len(), values);
     if refusal == 0 {
-        header_write::write_values(bytes, values);
+        header_write::write_values(edition, bytes, values);
         return 0;
     }
     refusal
 }
 
 // The line of the table of sample rates that a record's header names; a line of zeros where it is no rate.
-pub fn rate_of(bytes: &[u8]) -> SampleRate
-    ensures { λ r. ⌜ r ≡ recordRate (now (bytes .entry)) ⌝ }
+pub fn rate_of(edition: u64, bytes: &[u8]) -> SampleRate
+    ensures { λ r. ⌜ r ≡ recordRate edition (now (bytes .entry)) ⌝ }
 {
-    sample_rates::sample_rate_of(fields::read_field(bytes, header::SAMPLE_RATE))
+    editions::sample_rate_of(edition, sample_rate_in(edition, bytes))
 }
 
 // The samples that each channel has in a record.
-pub fn sample_count(bytes: &[u8]) -> usize
-    ensures { λ r. ⌜ (r ≡ sampleCount (now (bytes .entry))) × (r ≤ mostSamples) ⌝ }
+pub fn sample_count(edition: u64, bytes: &[u8]) -> usize
+    ensures { λ r. ⌜ (r ≡ sampleCount edition (now (bytes .entry))) × (r ≤ mostSamples) ⌝ }
 {
-    let rate = rate_of(bytes);
+    let rate = rate_of(edition, bytes);
     rate.samples as usize
 }
 
 // The sample stretch of a record, a part of it; of bytes that are too short for it, what there is.
-pub fn sample_stretch<'a>(bytes: &'a [u8]) -> &'a [u8]
-    ensures { λ r. ⌜ now r ≡ stretchOf (now (bytes .entry)) ⌝ }
+pub fn sample_stretch<'a>(edition: u64, bytes: &'a [u8]) -> &'a [u8]
+    ensures { λ r. ⌜ now r ≡ stretchOf edition (now (bytes .entry)) ⌝ }
 {
-    let count = sample_count(bytes);
-    let start = lists::lesser(HEADER_BYTES, bytes.len());
-    let end = lists::lesser(HEADER_BYTES + 4 * count, bytes.len());
+    let count = sample_count(edition, bytes);
+    let header_bytes = editions::header_bytes(edition);
+    let start = lists::lesser(header_bytes, bytes.len());
+    let end = lists::lesser(header_bytes + 4 * count, bytes.len());
     &bytes[start..end]
 }

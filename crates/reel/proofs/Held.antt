@@ -1,5 +1,6 @@
--- What a reader owns, for the walks: it is taken apart into its reel and its place, and made of them. A reader and a `&[u8]` are
--- Copy, so what they own is had twice: one copy is kept whole for the exit, and the other goes to the callee. Assumes nothing.
+-- What a reader owns, for the walks: it is taken apart into its edition, its reel and its place, and made of them. A reader and a
+-- `&[u8]` are Copy, so what they own is had twice: one copy is kept whole for the exit, and the other goes to the callee. Assumes
+-- nothing.
 use mathlib.Core.Path.{_≡_, refl}
 use Prim.Native.Nat.{_<_, _^_}
 use mathlib.Core.List.{List, [], _∷_}
@@ -17,7 +18,7 @@ use types.Kit.{Given, ‵, raw, _⊛_, given, ⋆, _$_, _∵_, !, qed, move, dro
 use denote.RattleType.{RattleType, owns}
 use denote.Laws.{Is}
 use denote.Plain.{uint-makes}
-use denote.Builtin.{u8, usize}
+use denote.Builtin.{u8, u64, usize}
 use denote.Signature.{namedLft}
 use denote.Slice.{sliceVal, ShrSlice, shr-slice-copy}
 use denote.Steps.{owned, nothing}
@@ -45,14 +46,18 @@ abbrev pub mach : Reader → Val
 mach d = T′.lowered d
 
 abbrev pub vd : (κs : Lfts 1) → Reader → Values (D κs .parts)
-vd κs d = (d .reel, (d .place, tt))
+vd κs d = (d .edition, (d .reel, (d .place, tt)))
 
--- the reel's machine value, and what a function over the reel and the place is passed
+-- its numbers fit their types
+abbrev pub Fits : Reader → Type 0
+Fits d = (d .edition < 2 ^ 64) × (d .place < 2 ^ 64)
+
+-- the reel's machine value, and what a function over the edition, the reel and the place is passed
 abbrev pub reel-value : Reader → Val
 reel-value d = sliceVal (d .reel .ptr) (length (d .reel .now))
 
-abbrev pub passed : Reader → List Val × (List Val × Unit {0})
-passed d = (reel-value d ∷ [], (vint w64 (d .place) ∷ [], tt))
+abbrev pub passed : Reader → List Val × (List Val × (List Val × Unit {0}))
+passed d = (vint w64 (d .edition) ∷ [], (reel-value d ∷ [], (vint w64 (d .place) ∷ [], tt)))
 
 -- what a reader owns, and what its reel does
 abbrev pub Own : Lft → Reader → Fml
@@ -65,39 +70,41 @@ module _ {M : Type 1} (𝓤 : URA M) (H : Heap 𝓤) (A : Atoms 𝓤) (W : Given
   pub twice : ent 𝓤 (⋆ 𝓤 H A (‵ (Own κ d) ∷ [])) (⋆ 𝓤 H A ((‵ (Own κ d) ⊛ ‵ (Own κ d)) ∷ []))
   twice = LL.copy (D (κ, tt)) (T′.the-copy (namedLft 1 0 tt (κ, tt))) 𝓤 H A W .twice d (mach d ∷ [])
 
-  -- with the lifetime's token, the reader; and the reel and the place
+  -- with the lifetime's token, the reader; and the edition, the reel and the place
   abbrev pub reader-held : SProp 𝓤
   reader-held = ⋆ 𝓤 H A ((‵ (flft κ q) ⊛ ‵ ftrue) ∷ ‵ (owns (B (κ, tt) ∷ []) (d, tt) (mach d ∷ [], tt)) ∷ [])
 
   abbrev pub reel-and-place : SProp 𝓤
-  reel-and-place = ⋆ 𝓤 H A ((‵ (flft κ q) ⊛ ‵ ftrue) ∷ ‵ (owns (ShrSlice (named 0) κ u8 ∷ usize ∷ []) (d .reel, (d .place, tt))
-      (passed d)) ∷ [])
+  reel-and-place = ⋆ 𝓤 H A ((‵ (flft κ q) ⊛ ‵ ftrue) ∷ ‵ (owns (u64 ∷ ShrSlice (named 0) κ u8 ∷ usize ∷ [])
+      (d .edition, (d .reel, (d .place, tt))) (passed d)) ∷ [])
 
   -- the reader gives what a callee asks, P, and is kept
-  pub apart : (P : SProp 𝓤) → ent 𝓤 reel-and-place P → d .place < 2 ^ 64 → ent 𝓤 reader-held (sep 𝓤 P (sem 𝓤 H A (Own κ d)))
+  pub apart : (P : SProp 𝓤) → ent 𝓤 reel-and-place P → Fits d → ent 𝓤 reader-held (sep 𝓤 P (sem 𝓤 H A (Own κ d)))
   apart P asked fits =
       qed W ((‵ (flft κ q) ⊛ ‵ ftrue) ∷ ‵ (owns (B (κ, tt) ∷ []) (d, tt) (mach d ∷ [], tt)) ∷ []) ∵
       move ! (1 ∷ []) $ fsplit ! $ move ! (1 ∷ []) $ drop ! $ use1 W (‵ (Own κ d) ⊛ ‵ (Own κ d)) twice $ split ! $
       use1 W (given (mach d ∷ [] ≡ mach d ∷ []) (‵ (all-own (D (κ, tt) .parts) (L (κ, tt)) (vd (κ, tt) d))))
       (own-open 𝓤 H A W (D (κ, tt)) (L (κ, tt)) (vd (κ, tt) d) (mach d)) $ learn ! (λ _.
-      use1 W (‵ (ownAt (D (κ, tt) .parts) (L (κ, tt)) 0 (d .reel)) ⊛ ‵ (rest (D (κ, tt) .parts) (L (κ, tt)) 0 (vd (κ, tt) d)))
-      (own-out 𝓤 H A W (D (κ, tt) .parts) (L (κ, tt)) 0 (vd (κ, tt) d)) $ split ! $
-      -- [what reel owns; what place owns; what the reader owns; the token]
-      move ! (1 ∷ []) $ drop ! $ nothing ! $ owned ! usize (Is usize) (uint-makes 𝓤 H A W w64) (d .place) _ (refl, fits) $
+      use1 W (‵ (ownAt (D (κ, tt) .parts) (L (κ, tt)) 1 (d .reel)) ⊛ ‵ (rest (D (κ, tt) .parts) (L (κ, tt)) 1 (vd (κ, tt) d)))
+      (own-out 𝓤 H A W (D (κ, tt) .parts) (L (κ, tt)) 1 (vd (κ, tt) d)) $ split ! $
+      -- [what reel owns; what the numbers own; what the reader owns; the token]
+      move ! (1 ∷ []) $ drop ! $ nothing ! $ owned ! usize (Is usize) (uint-makes 𝓤 H A W w64) (d .place) _ (refl, fits .1) $
       fjoin ! $ move ! (1 ∷ 0 ∷ []) $ fjoin ! $
+      owned ! u64 (Is u64) (uint-makes 𝓤 H A W w64) (d .edition) _ (refl, fits .0) $ fjoin ! $
       move ! (2 ∷ 0 ∷ []) $ use2 W (raw P) asked $ frame ! $ done !)
 
-  -- the reel and the place give what a callee that takes the reader asks, P, and the reel is kept
-  pub together : (P : SProp 𝓤) → ent 𝓤 (reader-held) P → d .place < 2 ^ 64
+  -- the edition, the reel and the place give what a callee that takes the reader asks, P, and the reel is kept
+  pub together : (P : SProp 𝓤) → ent 𝓤 (reader-held) P → Fits d
       → ent 𝓤 (reel-and-place) (sep 𝓤 P (sem 𝓤 H A (Kept κ d)))
   together P asked fits =
-      qed W ((‵ (flft κ q) ⊛ ‵ ftrue) ∷ ‵ (owns (ShrSlice (named 0) κ u8 ∷ usize ∷ []) (d .reel, (d .place, tt)) (passed d)) ∷ [])
-      ∵
-      move ! (1 ∷ []) $ fsplit ! $ use1 W (‵ (Kept κ d) ⊛ ‵ (Kept κ d))
+      qed W ((‵ (flft κ q) ⊛ ‵ ftrue) ∷ ‵ (owns (u64 ∷ ShrSlice (named 0) κ u8 ∷ usize ∷ [])
+      (d .edition, (d .reel, (d .place, tt))) (passed d)) ∷ []) ∵
+      move ! (1 ∷ []) $ fsplit ! $ drop ! $ fsplit ! $ use1 W (‵ (Kept κ d) ⊛ ‵ (Kept κ d))
       (shr-slice-copy 𝓤 H A W (named 0) κ u8 .twice (d .reel) (reel-value d ∷ [])) $ split ! $
       -- [what reel owns; the same; what place owns; the token]
-      move ! (2 ∷ []) $ drop ! $ nothing ! $ owned ! usize (Is usize) (uint-makes 𝓤 H A W w64) (d .place) _ (refl, fits) $
+      move ! (2 ∷ []) $ drop ! $ nothing ! $ owned ! usize (Is usize) (uint-makes 𝓤 H A W w64) (d .place) _ (refl, fits .1) $
       fjoin ! $ move ! (1 ∷ 0 ∷ []) $ fjoin ! $
+      owned ! u64 (Is u64) (uint-makes 𝓤 H A W w64) (d .edition) _ (refl, fits .0) $ fjoin ! $
       use1 W (‵ (Own κ d)) (own-shut 𝓤 H A W (D (κ, tt)) (L (κ, tt)) (vd (κ, tt) d)) $ nothing ! $ move ! (1 ∷ 0 ∷ []) $ fjoin ! $
       move ! (2 ∷ 0 ∷ []) $ use2 W (raw P) asked $ frame ! $ done !
 

@@ -6,4 +6,4 @@ use Rattle.reel.specs.declared.Step.the-variants.{Record, Finished, Refu
 abbrev pub shownStep : Step → Found
 shownStep (Record start end) = accepted start end
 shownStep Finished = finished
-shownStep (Refused n) = refused n
+shownStep (Refused k) = refused k

@@ -12,9 +12,9 @@ use Rattle.samples.specs.declared.TotalsAnswer.{TotalsAnswer}
 abbrev pub noTotals : List Total
 noTotals = noTotal ∷ noTotal ∷ noTotal ∷ noTotal ∷ []
 
--- the totals of channels 1 to 4 over all samples of the record b, or its refusal
-unfoldable pub totalsAnswer : List ℕ → Answer (List Total)
-totalsAnswer b = unless (recordRefusal b) noTotals (totalsOf (stretchOf b) (sampleCount b))
+-- the totals of channels 1 to 4 over all samples of the record b of the edition n, or its refusal
+unfoldable pub totalsAnswer : ℕ → List ℕ → Answer (List Total)
+totalsAnswer n b = unless (recordRefusal n b) noTotals (totalsOf (stretchOf n b) (sampleCount n b))
 
 -- the number is the field `refusal`, the values are the totals
 abbrev pub shownTotals : TotalsAnswer → Answer (List Total)

@@ -9,7 +9,6 @@ ghost use Rattle.answers.specs.Refusal.{_when_, first, _then_};
 ghost use Rattle.record.specs.Record.{recordRefusal};
 ghost use Rattle.samples.specs.InOut.{fewer, samplesRefusal, channelAfter, recordAfter};
 ghost use Rattle.samples.specs.Totals.{noTotals, totalsAnswer, shownTotals};
-use header::HEADER_BYTES;
 use totals::NO_TOTAL;
 use totals::Total;
 
@@ -21,12 +20,20 @@ pub struct TotalsAnswer {
     pub channels: [Total; 4],
 }
 
-// The refusal for a record of `count` samples a channel and four channel buffers of these lengths, 1 to 11 or 12, or 0.
-fn judge(bytes: &[u8], count: usize, one: usize, two: usize, three: usize, four: usize) -> u8
-    ensures { λ r. ⌜ r ≡ recordRefusal (now (bytes .entry)) then first (12 when fewer count one two three four ∷ []) ⌝ }
+// The refusal for a record of `count` samples a channel and four channel buffers of these lengths, 25, 1 to 11 or 12, or 0.
+fn judge(
+    edition: u64,
+    bytes: &[u8],
+    count: usize,
+    one: usize,
+    two: usize,
+    three: usize,
+    four: usize,
+) -> u8
+    ensures { λ r. ⌜ r ≡ recordRefusal edition (now (bytes .entry)) then first (12 when fewer count one two three four ∷ []) ⌝ }
 {
     let short = (one < count) | ((two < count) | ((three < count) | (four < count)));
-    let refusal = record::refusal_of(bytes);
+    let refusal = record::refusal_of(edition, bytes);
     let buffers = answers::check(12, short, 0);
     answers::first_refusal(refusal, buffers)
 }
@@ -34,20 +41,22 @@ fn judge(bytes: &[u8], count: usize, one: usize, two: usize, three: usize, four:
 // The samples of a record, out to the buffers of the four channels; places past them keep their contents. The stretch tells how
 // many there are: of an accepted record it is whole, and any other is refused whatever it tells.
 pub fn read_samples(
+    edition: u64,
     bytes: &[u8],
     one: &mut [i8],
     two: &mut [i8],
     three: &mut [i8],
     four: &mut [i8],
 ) -> u8
-    ensures { λ r. ⌜ r ≡ samplesRefusal (now (bytes .entry)) (length (now (one .entry))) (length (now (two .entry))) (length (now (three .entry))) (length (now (four .entry))) ⌝ }
-    ensures { λ r. ⌜ now (one .exit) ≡ channelAfter r (now (bytes .entry)) 1 (now (one .entry)) ⌝ }
-    ensures { λ r. ⌜ now (two .exit) ≡ channelAfter r (now (bytes .entry)) 2 (now (two .entry)) ⌝ }
-    ensures { λ r. ⌜ now (three .exit) ≡ channelAfter r (now (bytes .entry)) 3 (now (three .entry)) ⌝ }
-    ensures { λ r. ⌜ now (four .exit) ≡ channelAfter r (now (bytes .entry)) 4 (now (four .entry)) ⌝ }
+    ensures { λ r. ⌜ r ≡ samplesRefusal edition (now (bytes .entry)) (length (now (one .entry))) (length (now (two .entry))) (length (now (three .entry))) (length (now (four .entry))) ⌝ }
+    ensures { λ r. ⌜ now (one .exit) ≡ channelAfter r edition (now (bytes .entry)) 1 (now (one .entry)) ⌝ }
+    ensures { λ r. ⌜ now (two .exit) ≡ channelAfter r edition (now (bytes .entry)) 2 (now (two .entry)) ⌝ }
+    ensures { λ r. ⌜ now (three .exit) ≡ channelAfter r edition (now (bytes .entry)) 3 (now (three .entry)) ⌝ }
+    ensures { λ r. ⌜ now (four .exit) ≡ channelAfter r edition (now (bytes .entry)) 4 (now (four .entry)) ⌝ }
 {
-    let stretch = record::sample_stretch(bytes);
+    let stretch = record::sample_stretch(edition, bytes);
     let refusal = judge(
+        edition,
         bytes,
         stretch.len() / 4,
         one.len(),
@@ -66,15 +75,31 @@ pub fn read_samples(
 }
 
 // The first samples of the four channels, into the sample stretch of a record; its header and all words past it stay.
-pub fn write_samples(bytes: &mut [u8], one: &[i8], two: &[i8], three: &[i8], four: &[i8]) -> u8
-    ensures { λ r. ⌜ r ≡ samplesRefusal (now (bytes .entry)) (length (now (one .entry))) (length (now (two .entry))) (length (now (three .entry))) (length (now (four .entry))) ⌝ }
-    ensures { λ r. ⌜ now (bytes .exit) ≡ recordAfter r (now (bytes .entry)) (now (one .entry)) (now (two .entry)) (now (three .entry)) (now (four .entry)) ⌝ }
+pub fn write_samples(
+    edition: u64,
+    bytes: &mut [u8],
+    one: &[i8],
+    two: &[i8],
+    three: &[i8],
+    four: &[i8],
+) -> u8
+    ensures { λ r. ⌜ r ≡ samplesRefusal edition (now (bytes .entry)) (length (now (one .entry))) (length (now (two .entry))) (length (now (three .entry))) (length (now (four .entry))) ⌝ }
+    ensures { λ r. ⌜ now (bytes .exit) ≡ recordAfter r edition (now (bytes .entry)) (now (one .entry)) (now (two .entry)) (now (three .entry)) (now (four .entry)) ⌝ }
 {
-    let count = record::sample_count(bytes);
-    let refusal = judge(bytes, count, one.len(), two.len(), three.len(), four.len());
+    let count = record::sample_count(edition, bytes);
+    let refusal = judge(
+        edition,
+        bytes,
+        count,
+        one.len(),
+        two.len(),
+        three.len(),
+        four.len(),
+    );
     if refusal == 0 {
-        let end = HEADER_BYTES + 4 * count;
-        channels::multiplex(&mut bytes[HEADER_BYTES..end], one, two, three, four);
+        let start = editions::header_bytes(edition);
+        let end = start + 4 * count;
+        channels::multiplex(&mut bytes[start..end], one, two, three, four);
         return 0;
     }
     refusal
@@ -91,15 +116,15 @@ fn no_totals(refusal: u8) -> TotalsAnswer
 }
 
 // The totals of a record's samples.
-pub fn record_totals(bytes: &[u8]) -> TotalsAnswer
-    ensures { λ r. ⌜ shownTotals r ≡ totalsAnswer (now (bytes .entry)) ⌝ }
+pub fn record_totals(edition: u64, bytes: &[u8]) -> TotalsAnswer
+    ensures { λ r. ⌜ shownTotals r ≡ totalsAnswer edition (now (bytes .entry)) ⌝ }
 {
-    let refusal = record::refusal_of(bytes);
+    let refusal = record::refusal_of(edition, bytes);
     if refusal != 0 {
         return no_totals(refusal);
     }
     TotalsAnswer {
         refusal: 0,
-        channels: totals::stretch_totals(record::sample_stretch(bytes)),
+        channels: totals::stretch_totals(record::sample_stretch(edition, bytes)),
     }
 }

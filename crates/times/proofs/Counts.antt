@@ -5,18 +5,14 @@ use mathlib.Core.Bool.{false}
 use mathlib.Core.List.{List}
 use native.Mathlib.Nat.{mod-eq-of-lt}
 use lib.Ieee.{Float}
-use lib.Ieee.Exact.{HasValue}
 use Rattle.fields.specs.declared.Field.{Field}
-use Rattle.fields.specs.Field.{isDecimal, bitWidth, valueOf}
+use Rattle.fields.specs.Field.{isDecimal, isSigned, bitWidth, valueOf}
 use Rattle.fields.proofs.OneField.{value-lt}
-use Rattle.phase.specs.Phase.{fractionBits, phaseOf}
+use Rattle.phase.specs.Phase.{InCycles}
 
-abbrev Exact : Float → ℕ → Type 0
-Exact x count = (x ≡ phaseOf fractionBits count) × HasValue x false count (2 ^ fractionBits)
-
--- the cycles of what a field of 48 bits holds
-pub exactly : (f : Field) (b : List ℕ) → isDecimal f ≡ false → bitWidth f ≡ 48 → (x : Float) (count : ℕ) → count ≡ valueOf f b
-    → Exact x (count % 2 ^ 48) → Exact x (valueOf f b)
-exactly f b binary wide x count e =
-    subst (Exact x)
-    (ap (λ (n : ℕ). n % 2 ^ 48) e ∙ mod-eq-of-lt (subst (λ (w : ℕ). valueOf f b < 2 ^ w) wide (value-lt f b binary)))
+-- the cycles of what a binary field of 48 bits holds, of which so many are a fraction
+pub exactly : (bits : ℕ) (f : Field) (b : List ℕ) → isDecimal f ≡ false → isSigned f ≡ false → bitWidth f ≡ 48
+    → (x : Float) (count : ℕ) → count ≡ valueOf f b → InCycles bits (count % 2 ^ 48) x → InCycles bits (valueOf f b) x
+exactly bits f b binary unsigned wide x count e =
+    subst (λ (m : ℕ). InCycles bits m x)
+    (ap (λ (m : ℕ). m % 2 ^ 48) e ∙ mod-eq-of-lt (subst (λ (w : ℕ). valueOf f b < 2 ^ w) wide (value-lt f b binary unsigned)))

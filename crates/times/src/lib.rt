@@ -1,10 +1,14 @@
 // When a sample was taken, and the phases of a record. FORMAT, "Times and phases". Every public function takes any bytes; a
 // refusal is a number.
 ghost use mathlib.Core.Path.{_≡_};
-ghost use Prim.Native.Nat.{_^_, _≤_, _<_};
-ghost use Rattle.sample_rates.specs.Rates.{mostSamples, secondUs};
+ghost use Prim.Native.Nat.{_%_, _^_, _<_};
+ghost use Rattle.header.specs.Edition.{fractionBits};
+ghost use Rattle.sample_rates.specs.Rates.{mostSamples};
+ghost use Rattle.phase.specs.Phase.{InCycles};
 ghost use Rattle.times.specs.SampleTime.{timeOf, sampleTime, timeAnswer, shownTime};
 ghost use Rattle.times.specs.Phases.{phaseAnswer, shownPhases, Exactly};
+use header::EDITION_1992;
+use sample_rates::SECOND_US;
 
 // Microseconds in a millisecond.
 const MS_US: u64 = 1000;
@@ -21,48 +25,61 @@ pub enum PhaseAnswer {
     Refused(u8),
 }
 
-// The time of sample k by the record's tag and the microseconds from a sample to the next.
-fn time_of(tag: u64, interval: u64, k: u64) -> u64
-    requires { ⌜ (tag < 2 ^ 27) × (interval ≤ secondUs) × (k < mostSamples) ⌝ }
-    ensures { λ r. ⌜ r ≡ timeOf tag interval k ⌝ }
+// The time of sample k by the record's tag and its samples a second, 0 where the header names no rate. It is rounded down once,
+// not with each sample.
+fn time_of(tag: u64, hz: u64, k: u64) -> u64
+    requires { ⌜ (tag < 2 ^ 27) × (k < mostSamples) ⌝ }
+    ensures { λ r. ⌜ r ≡ timeOf tag hz k ⌝ }
 {
-    MS_US * tag + k * interval
+    if hz == 0 {
+        return MS_US * tag;
+    }
+    MS_US * tag + k * SECOND_US / hz
 }
 
 // The time of the first sample, of any bytes.
-pub fn first_sample_time(bytes: &[u8]) -> u64
-    ensures { λ r. ⌜ r ≡ sampleTime (now (bytes .entry)) 0 ⌝ }
+pub fn first_sample_time(edition: u64, bytes: &[u8]) -> u64
+    ensures { λ r. ⌜ r ≡ sampleTime edition (now (bytes .entry)) 0 ⌝ }
 {
-    let interval = sample_rates::interval_us(record::rate_of(bytes));
-    time_of(fields::read_field(bytes, header::TIME_TAG), interval, 0)
+    let rate = record::rate_of(edition, bytes);
+    time_of(fields::read_field(bytes, header::TIME_TAG), rate.hz, 0)
 }
 
 // The time of sample k of a record.
-pub fn sample_time(bytes: &[u8], k: u64) -> TimeAnswer
-    ensures { λ r. ⌜ shownTime r ≡ timeAnswer (now (bytes .entry)) k ⌝ }
+pub fn sample_time(edition: u64, bytes: &[u8], k: u64) -> TimeAnswer
+    ensures { λ r. ⌜ shownTime r ≡ timeAnswer edition (now (bytes .entry)) k ⌝ }
 {
-    let rate = record::rate_of(bytes);
+    let rate = record::rate_of(edition, bytes);
     let missing = answers::check(12, !(k < rate.samples), 0);
-    let refusal = answers::first_refusal(record::refusal_of(bytes), missing);
+    let refusal = answers::first_refusal(record::refusal_of(edition, bytes), missing);
     if refusal != 0 {
         return TimeAnswer::Refused(refusal);
     }
-    let interval = sample_rates::interval_us(rate);
     let tag = fields::read_field(bytes, header::TIME_TAG);
-    TimeAnswer::Microseconds(time_of(tag, interval, k))
+    TimeAnswer::Microseconds(time_of(tag, rate.hz, k))
+}
+
+// The cycles of a count, by the fraction bits that the edition's counts have.
+fn cycles(edition: u64, count: u64) -> f64
+    ensures { λ r. ⌜ InCycles (fractionBits edition) (count % 2 ^ 48) r ⌝ }
+{
+    if edition == EDITION_1992 {
+        return phase::cycles_20(count);
+    }
+    phase::cycles_8(count)
 }
 
 // The two phases of a record.
-pub fn phases(bytes: &[u8]) -> PhaseAnswer
-    ensures { λ r. ⌜ shownPhases r ≡ phaseAnswer (now (bytes .entry)) ⌝ }
-    ensures { λ r. ⌜ Exactly (now (bytes .entry)) r ⌝ }
+pub fn phases(edition: u64, bytes: &[u8]) -> PhaseAnswer
+    ensures { λ r. ⌜ shownPhases r ≡ phaseAnswer edition (now (bytes .entry)) ⌝ }
+    ensures { λ r. ⌜ Exactly edition (now (bytes .entry)) r ⌝ }
 {
-    let refusal = record::refusal_of(bytes);
+    let refusal = record::refusal_of(edition, bytes);
     if refusal != 0 {
         return PhaseAnswer::Refused(refusal);
     }
     PhaseAnswer::Cycles {
-        first: phase::cycles(fields::read_field(bytes, header::PHASE_1)),
-        second: phase::cycles(fields::read_field(bytes, header::PHASE_2)),
+        first: cycles(edition, fields::read_field(bytes, header::PHASE_1)),
+        second: cycles(edition, fields::read_field(bytes, header::PHASE_2)),
     }
 }

@@ -1,5 +1,7 @@
 // Cases worked by hand that are run, not proved (FORMAT, "Cases worked by hand"): each line says what was asked and the refusal
 // number, 0 for none. The others are proved in crate `worked_cases`.
+use header::EDITION_1985;
+use header::EDITION_1992;
 use index_model::Opening;
 use index_model::WIDTH;
 use index_open::OpenAnswer;
@@ -46,7 +48,7 @@ fn print_line(asked: &[u8], number: u8) {
 }
 
 fn refusal_of(bytes: &[u8; CASE_BYTES]) -> u8 {
-    record::refusal_of(bytes)
+    record::refusal_of(EDITION_1985, bytes)
 }
 
 // A record of this date, read. Word 6 holds the year in its first seven bits and the day in the other nine.
@@ -59,11 +61,11 @@ fn refusal_read(date: u16) -> u8 {
 // A header of this date, written.
 fn refusal_written(date: u16) -> u8 {
     let mut bytes = lister_case();
-    let answer = record::read_header(&bytes);
+    let answer = record::read_header(EDITION_1985, &bytes);
     let mut values = answer.values;
     values[header::AT_YEAR] = (date / 512) as u64;
     values[header::AT_DAY] = (date % 512) as u64;
-    record::write_header(&mut bytes, values)
+    record::write_header(EDITION_1985, &mut bytes, values)
 }
 
 fn print_date(asked: &[u8], date: u16) {
@@ -76,7 +78,7 @@ fn print_inserts(o: Opening, rows: &mut [u32; 3 * WIDTH], seconds: &mut [u32; WI
     let mut bytes = lister_case();
     print_line(
         b"record 1 of a second: ",
-        index_update::insert(o, &bytes, rows, seconds),
+        index_update::insert(o, EDITION_1985, &bytes, rows, seconds),
     );
     set_word(&mut bytes, 2, 2);
     print_line(
@@ -96,7 +98,7 @@ fn insert_again(
     rows: &mut [u32; 3 * WIDTH],
     seconds: &mut [u32; WIDTH],
 ) -> u8 {
-    index_update::insert(o, bytes, rows, seconds)
+    index_update::insert(o, EDITION_1985, bytes, rows, seconds)
 }
 
 fn refusal_of_test(o: Opening, rows: &[u32; 3 * WIDTH], seconds: &[u32; WIDTH]) -> u8 {
@@ -124,6 +126,7 @@ fn holding_day_366(o: Opening, year: u64) -> Opening {
         first_second: o.first_second,
         second_count: o.second_count,
         highest_number: o.highest_number,
+        edition: o.edition,
         sample_rate_hz: o.sample_rate_hz,
         tape_number: o.tape_number,
         year,
@@ -151,16 +154,118 @@ fn fill_a_second() {
     let pattern = lister_case();
     let mut rows = [7u32; 3 * WIDTH];
     let mut seconds = [7u32; WIDTH];
-    match index_open::open(&pattern, 43_200, 1, 3, &mut rows, &mut seconds) {
+    match index_open::open(
+        EDITION_1985,
+        &pattern,
+        43_200,
+        1,
+        3,
+        &mut rows,
+        &mut seconds,
+    ) {
         OpenAnswer::Opened(o) => print_calls(o, &mut rows, &mut seconds),
         OpenAnswer::Refused(n) => print_line(b"opening refused: ", n),
     }
 }
 
+// Bytes of the longest record of 1992: 2083 words.
+const LONGEST_1992: usize = 4_166;
+
+fn set_word_1992(bytes: &mut [u8; LONGEST_1992], word: usize, value: u16) {
+    if word > LONGEST_1992 / 2 {
+        return;
+    }
+    if word == 0 {
+        return;
+    }
+    let at = 2 * (word - 1);
+    bytes[at] = (value / 256) as u8;
+    bytes[at + 1] = (value % 256) as u8;
+}
+
+// A record of 1992 of this rate and length, with the lister's case's date and time; bytes past its length follow it.
+fn case_1992(hz: u16, words: u16) -> [u8; LONGEST_1992] {
+    let mut bytes = [0u8; LONGEST_1992];
+    set_word_1992(&mut bytes, 1, 0x9101);
+    set_word_1992(&mut bytes, 2, 0x0001);
+    set_word_1992(&mut bytes, 3, words);
+    set_word_1992(&mut bytes, 6, 0xAC18);
+    set_word_1992(&mut bytes, 7, 0x0293);
+    set_word_1992(&mut bytes, 8, 0x2E00);
+    set_word_1992(&mut bytes, 80, hz);
+    set_word_1992(&mut bytes, 81, 0xA55A);
+    bytes
+}
+
+// The refusal of such a record, as one of an edition.
+fn refusal_1992(edition: u64, hz: u16, words: u16) -> u8 {
+    let bytes = case_1992(hz, words);
+    let size = lists::lesser(2 * words as usize, LONGEST_1992);
+    record::refusal_of(edition, &bytes[0..size])
+}
+
+fn print_length(hz: u16, words: u16) {
+    io::print_decimal(STDOUT_FILENO, hz as u64);
+    io::write_all(STDOUT_FILENO, b" a second, ");
+    io::print_decimal(STDOUT_FILENO, words as u64);
+    print_line(b" words: ", refusal_1992(EDITION_1992, hz, words));
+}
+
+// Table 1 of 1992: a record of each rate and its length.
+fn print_fast_lengths() {
+    print_length(50_000, 2083);
+    print_length(31_250, 1333);
+    print_length(25_000, 2083);
+    print_length(20_000, 2083);
+    print_length(15_625, 1333);
+    print_length(12_500, 1333);
+    print_length(10_000, 2083);
+    print_length(6_250, 1333);
+    print_length(5_000, 2083);
+}
+
+fn print_slow_lengths() {
+    print_length(4_000, 2083);
+    print_length(3_125, 1333);
+    print_length(2_500, 1333);
+    print_length(2_000, 2083);
+    print_length(1_250, 1333);
+    print_length(1_000, 1083);
+    print_length(500, 583);
+    print_length(400, 483);
+    print_length(250, 333);
+    print_length(200, 283);
+}
+
+// A record of each edition under the other and under none, one that is too short, and lengths of another line.
+fn print_editions() {
+    let of_1985 = lister_case();
+    let of_1992 = case_1992(200, 283);
+    print_line(
+        b"1985's under 1992: ",
+        record::refusal_of(EDITION_1992, &of_1985),
+    );
+    print_line(b"1992's under 1985: ", refusal_1992(EDITION_1985, 200, 283));
+    print_line(b"1992's under 1986: ", refusal_1992(1986, 200, 283));
+    print_line(
+        b"165 bytes: ",
+        record::refusal_of(EDITION_1992, &of_1992[0..165]),
+    );
+    print_length(31_250, 2083);
+    print_length(200, 195);
+    print_length(8_000, 2083);
+}
+
 fn main() {
     let bytes = lister_case();
-    print_line(b"the lister's case: ", record::refusal_of(&bytes));
-    print_line(b"79 bytes: ", record::refusal_of(&bytes[0..79]));
+    print_line(
+        b"the lister's case: ",
+        record::refusal_of(EDITION_1985, &bytes),
+    );
+    print_line(
+        b"79 bytes: ",
+        record::refusal_of(EDITION_1985, &bytes[0..79]),
+    );
     print_date(b"day 366 of year 84: ", 84 * 512 + 366);
     print_date(b"day 367 of year 84: ", 84 * 512 + 367);
     print_date(b"day 366 of year 86: ", 86 * 512 + 366);
@@ -168,4 +273,8 @@ fn main() {
     print_date(b"day 366 of year 00: ", 366);
     print_date(b"day 366 of year 99: ", 99 * 512 + 366);
     fill_a_second();
+    io::write_all(STDOUT_FILENO, b"of 1992:\n");
+    print_fast_lengths();
+    print_slow_lengths();
+    print_editions();
 }

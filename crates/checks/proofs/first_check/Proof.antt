@@ -2,17 +2,20 @@ use mathlib.Core.Path.{_∙_}
 use mathlib.Core.Bool.{cond, not, _&&_, _||_}
 use lib.Dec.{eqb, ltb}
 use borrow.Author.Needs.{needs}
-use Rattle.header.specs.Format.{headerBytes}
 use Rattle.checks.specs.Checks.{lastMs}
 use Rattle.checks.proofs.first_check.Statement.{statement}
 use Rattle.checks.proofs.first_check.Tie as tie
 
 returns : tie.Need-returns
 returns c =
-    let c10 = c .before .before in
+    let unknown = c .before in
+    let c11 = unknown .before in
+    let top = c11 .before .before in
+    let c10 = top .before in
     let length = c10 .before in
     let c9 = length .before in
-    let c8 = c9 .before .before in
+    let other = c9 .before .before in
+    let c8 = other .before in
     let c7 = c8 .before .before in
     let c6 = c7 .before .before in
     let rate = c6 .before .before .before .before .before in
@@ -34,14 +37,19 @@ returns c =
     ∙ (λ i. cond (not (eqb words (line i .«words_b»)) && not (eqb words (line i .«words_a»))) 6 (numbers i)) in
     let rates = c7 .check7 .ensures ∙ (λ i. cond (eqb (line i .hz) 0) 5 (sizes i)) in
     let compression = c8 .check8 .ensures ∙ (λ i. cond (not (eqb (j .compression) 1)) 4 (rates i)) in
-    let conversion = c9 .check9 .ensures ∙ (λ i. cond (eqb (j .conversion) 1) 3 (compression i)) in
+    let conversion = c9 .check9 .ensures ∙ (λ i. cond (eqb (j .conversion) (other .other-resolution .ensures i)) 3 (compression i)) in
     let lengths = c10 .check10 .ensures ∙ (λ i. cond (length .wrong-length .ensures i) 2 (conversion i)) in
-    c .check11 .ensures ∙ (λ i. cond (ltb (j .bytes) headerBytes) 1 (lengths i))
+    let short = c11 .check11 .ensures ∙ (λ i. cond (ltb (j .bytes) (top .header-bytes .ensures .0 i)) 1 (lengths i)) in
+    c .check12 .ensures ∙ (λ i. cond (unknown .is-unknown .ensures i) 25 (short i))
 
 pub first-check-spec : {M : Type 1} → statement M
 first-check-spec =
     tie.close
     (tie.spec
+    (λ c κs. search needs)
+    (λ c κs. search needs)
+    (λ c κs. search needs)
+    (λ c κs. search needs)
     (λ c κs. search needs)
     (λ c κs. search needs)
     (λ c κs. search needs)

@@ -11,7 +11,10 @@ returns c =
     c .decimal-code .ensures ∙ code-decimal (a .f) (start .pre) (a .value) (c .before .if1 .taken)
 
 returns-2 : tie.Need-returns-2
-returns-2 c = let a = c .before .args in code-binary (a .f) (a .value) (c .if1 .left)
+returns-2 c =
+    let start = c .before in
+    let a = start .args in
+    code-binary (a .f) (start .pre) (a .value) (c .if1 .left)
 
 pub code-of-spec : {M : Type 1} → statement M
 code-of-spec = tie.close (tie.spec (λ c κs. search needs) returns returns-2)

@@ -4,7 +4,8 @@ use mathlib.Core.List.{_++_}
 use denote.Ref.{now}
 use borrow.Author.Needs.{needs}
 use Rattle.header_parts.proofs.Laws.{listed, then-placed, whole}
-use Rattle.header.specs.Format.{common1, common2, common3, common4, common5, own1985, fieldCount}
+use Rattle.header.specs.Format.{common1, common2, common3, common4, common5, fieldCount}
+use Rattle.header.proofs.Sound.{own-listed}
 use Rattle.header.proofs.read_into.Statement.{statement}
 use Rattle.header.proofs.read_into.Tie as tie
 
@@ -20,8 +21,9 @@ returns c =
     let r3 = c3 .before .«read-common-3» in
     let r4 = c4 .before .«read-common-4» in
     let r5 = c5 .before .«read-common-5» in
-    let r6 = c .before .«read-own-1985» in
+    let r6 = c .before .read-own in
     let start = c1 .before .before .before .before in
+    let n = start .args .edition in
     let b = now (start .args .bytes) in
     let held = now (start .args .values) in
     then-placed 40 (r6 .result) (c .place6 .ensures) (
@@ -37,7 +39,7 @@ returns c =
     ++ (listed 0 common3 b (r3 .result) (r3 .ensures) i
     ++ (listed 0 common4 b (r4 .result) (r4 .ensures) i
     ++ (listed 0 common5 b (r5 .result) (r5 .ensures) i
-    ++ listed 0 own1985 b (r6 .result) (r6 .ensures) i)))))
+    ++ own-listed n b (r6 .result) (r6 .ensures) i)))))
 
 pub read-into-spec : {M : Type 1} → statement M
 read-into-spec =

@@ -8,4 +8,4 @@ unfolding heldWrong
 returns c = cc
 
 pub held-wrong-spec : {M : Type 1} → statement M
-held-wrong-spec = tie.close (tie.spec (λ c κs. search needs) (λ c κs. search needs) returns)
+held-wrong-spec = tie.close (tie.spec (λ c κs. search needs) (λ c κs. search needs) (λ c κs. search needs) returns)

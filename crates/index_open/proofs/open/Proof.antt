@@ -1,6 +1,7 @@
 use mathlib.Core.Path.{_≡_, ap, sym, _∙_}
 use native.Mathlib.Omega.{arith}
 use denote.Ref.{now}
+use Rattle.index_model.specs.Records.{inEdition}
 use Rattle.index_model.specs.Buffers.{Buffers, lent}
 use Rattle.index_model.specs.Opening.{openRefusal}
 use Rattle.index_model.proofs.Opened.{long, is-cleared}
@@ -11,8 +12,8 @@ use Rattle.index_open.proofs.open.Tie as tie
 
 -- where the code clears, there is no refusal
 none : (c : tie.Then1)
-    → let a = c .before .before .before .before .before .before .before .before .args in openRefusal (now (a .pattern))
-    (a .first-second) (a .second-count) (a .highest-number) (lent (now (a .rows)) (now (a .seconds))) ≡ 0
+    → let a = c .before .before .before .before .before .before .before .before .args in openRefusal
+    (inEdition (a .edition) (now (a .pattern))) (a .first-second) (a .second-count) (a .highest-number) (lent (now (a .rows)) (now (a .seconds))) ≡ 0
 none c =
     let j = c .before in
     sym (judged _ _ _ _ _ (j .before .before .before .opening-of .ensures) (j .judge .ensures)) ∙ c .if1 .taken

@@ -15,12 +15,13 @@ returns c =
       «first_second» = a .first-second;
       «second_count» = a .second-count;
       «highest_number» = a .highest-number;
-      «sample_rate_hz» = rate .read-field .ensures i;
-      «tape_number» = tape .read-field2 .ensures i;
-      year = year .read-field3 .ensures i;
-      day = day .read-field4 .ensures i;
-      spacecraft = craft .read-field5 .ensures i;
-      spc = c .read-field6 .ensures i;
+      edition = a .edition;
+      «sample_rate_hz» = rate .sample-rate-in .ensures i;
+      «tape_number» = tape .read-field .ensures i;
+      year = year .read-field2 .ensures i;
+      day = day .read-field3 .ensures i;
+      spacecraft = craft .read-field4 .ensures i;
+      spc = c .read-field5 .ensures i;
     }
 
 pub opening-of-spec : {M : Type 1} → statement M

@@ -9,13 +9,13 @@ use Rattle.index_query.proofs.samples_in_records.Tie as tie
 mul-result : tie.Need-mul-result
 mul-result c =
     let rate = c .before .before .sample-rate-of in
-    record { fits = omega (arith, count-most (c .before .wide .result) _ (rate .result) (rate .ensures) (search needs)) }
+    record { fits = omega (arith, count-most (c .before .wide .result) _ _ (rate .result) (rate .ensures) (search needs)) }
 
 returns : tie.Need-returns
 returns c =
     let rate = c .before .before .sample-rate-of in (
       (λ t. c .before .wide .ensures .0 t * samplesPerRecord (rate .ensures t)),
-      count-most (c .before .wide .result) _ (rate .result) (rate .ensures) (search needs),
+      count-most (c .before .wide .result) _ _ (rate .result) (rate .ensures) (search needs),
     )
 
 pub samples-in-records-spec : {M : Type 1} → statement M

@@ -11,7 +11,7 @@ use Rattle.index_row.proofs.row_of.Statement.{statement}
 use Rattle.index_row.proofs.row_of.Tie as tie
 
 stretch-row-requires : tie.Need-stretch-row-requires
-stretch-row-requires c κs = subst (λ (l : List ℕ). length l ≤ 4 * mostSamples) (sym (c .sample-stretch .ensures)) (stretch-most _)
+stretch-row-requires c κs = subst (λ (l : List ℕ). length l ≤ 4 * mostSamples) (sym (c .sample-stretch .ensures)) (stretch-most _ _)
 
 returns : tie.Need-returns
 unfolding rowOf

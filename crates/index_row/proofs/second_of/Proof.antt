@@ -2,14 +2,14 @@ use Prim.Native.Nat.{ℕ, _/_}
 use mathlib.Core.Path.{ap}
 use native.Mathlib.Omega.{arith}
 use denote.Ref.{now}
-use Rattle.index_model.specs.Records.{secondMs, secondOf}
+use Rattle.index_model.specs.Records.{secondMs, secondIn}
 use Rattle.index_row.proofs.Samples.{tag-small}
 use borrow.Author.Needs.{needs}
 use Rattle.index_row.proofs.second_of.Statement.{statement}
 use Rattle.index_row.proofs.second_of.Tie as tie
 
 returns : tie.Need-returns
-unfolding secondOf
+unfolding secondIn
 returns c = (
   ap (λ (tag : ℕ). tag / secondMs) (c .read-field .ensures),
   omega

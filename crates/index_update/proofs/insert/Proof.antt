@@ -1,5 +1,6 @@
 use Prim.Native.Nat.{ℕ, _-_, _<_}
 use mathlib.Core.Path.{ap, sym, subst, _∙_}
+use Rattle.index_model.specs.Records.{inEdition}
 use Rattle.index_model.specs.Buffers.{Buffers, lent}
 use Rattle.index_model.specs.Calls.{rowInserted}
 use Rattle.index_update.specs.Inner.{Placed}
@@ -15,7 +16,7 @@ insert-row-requires c κs =
     let number = second .before in
     let a = number .before .before .before .before .args in
     let place = c .before .before .row-place .ensures ∙ ap (λ (n : ℕ). n - 1) (number .read-field .ensures) in
-    let fits = put-fits (a .o) (a .bytes .now) (lent (a .rows .now) (a .seconds .now))
+    let fits = put-fits (a .o) (inEdition (a .edition) (a .bytes .now)) (lent (a .rows .now) (a .seconds .now))
     (sym (j .judge-insert .ensures) ∙ c .before .before .before .before .if1 .taken) in (
       fits .0,
       subst (λ (i : ℕ). i < a .o .«highest_number») (sym place) (fits .1),
@@ -35,7 +36,7 @@ returns c =
     let none = sym (j .judge-insert .ensures) ∙ row .before .if1 .taken in
     let place = r .before .before .before .row-place .ensures ∙ ap (λ (n : ℕ). n - 1) (number .read-field .ensures) in
     let all = (λ t. rowInserted (a .o) (place t) (second .second-of .ensures .0 t) (row .row-of .ensures t) lents)
-    ∙ put-done (a .o) (a .bytes .now) lents none in (
+    ∙ put-done (a .o) (inEdition (a .edition) (a .bytes .now)) lents none in (
       sym none,
       (
         r .insert-row .ensures .0 ∙ ap (λ (b : Buffers). b .rows) all,
@@ -49,7 +50,7 @@ returns-2 c =
     let j = c .before in
     let a = j .before .before .before .before .before .before .before .before .args in
     let e = j .judge-insert .ensures in
-    let kept = put-refused (a .o) (a .bytes .now) (lent (a .rows .now) (a .seconds .now)) (λ z. c .if1 .left (e ∙ z)) in
+    let kept = put-refused (a .o) (inEdition (a .edition) (a .bytes .now)) (lent (a .rows .now) (a .seconds .now)) (λ z. c .if1 .left (e ∙ z)) in
     (e, (ap (λ (b : Buffers). b .rows) kept, ap (λ (b : Buffers). b .seconds) kept))
 
 pub insert-spec : {M : Type 1} → statement M

@@ -11,6 +11,7 @@ use Rattle.reel.specs.declared.Step.{Step}
 use Rattle.reel.specs.declared.Step.the-variants as Step
 use Rattle.reel.specs.Reel.{Found, accepted, finished, refused, stepAt}
 use Rattle.reel.specs.Shown.{shownStep}
+use Rattle.reel.proofs.Rest.{header-size}
 use Rattle.reel.proofs.Place.{Stands, stands-at}
 use Rattle.numbers.specs.Writing.{Room}
 use Rattle.numbers.proofs.Writing.{room-first, room-as, written-as}
@@ -38,11 +39,11 @@ module _ (c : tie.After-step-by-reader Inv-loop μ-loop) where
   abbrev reel : List ℕ
   reel = now (entry .args .reel)
 
-  found : (r : Step) → c .step-by-reader .result ≡ r → stepAt reel (turn .loop .place) ≡ shownStep r
+  found : (r : Step) → c .step-by-reader .result ≡ r → stepAt 1985 reel (turn .loop .place) ≡ shownStep r
   found r is = sym (c .step-by-reader .ensures) ∙ ap shownStep is
 
-  stands : (start end : ℕ) → c .step-by-reader .result ≡ Step.Record start end → Stands reel (turn .loop .place) start end
-  stands start end is = stands-at reel (turn .loop .place) start end (found (Step.Record start end) is)
+  stands : (start end : ℕ) → c .step-by-reader .result ≡ Step.Record start end → Stands 1985 reel (turn .loop .place) start end
+  stands start end is = stands-at 1985 reel (turn .loop .place) start end (found (Step.Record start end) is)
 
   line : (start end : ℕ) → c .step-by-reader .result ≡ Step.Record start end
       → Line reel end (recordText (take (end - start) (drop start reel))) (turn .loop .inv .rest)
@@ -72,7 +73,7 @@ loop-less : tie.Need-loop-less Inv-loop μ-loop
 loop-less c =
     let m = c .before .before .before .before .before .before in
     let s = stands (m .before .before) _ _ (m .start .given .1) in
-    omega (arith, s .here, s .header, s .inside)
+    omega (arith, s .here, s .header, s .inside, header-size 1985 .0)
 
 loop-again : tie.Need-loop-again Inv-loop μ-loop
 loop-again c =

@@ -10,9 +10,11 @@ returns : tie.Need-returns
 returns c =
     let s = c .before .before in
     let t = s .before .before .before in
+    let a = t .args in
     let p = t .pre in
     let k = s .stretch-in .ensures in (
-      ap accepted (k .bytes) ∙ new-in-this (now (t .args .this)) (now (t .args .earlier)) (t .args .row) (p .0) (p .1) (p .2)
+      ap accepted (k .bytes)
+          ∙ new-in-this (a .edition) (now (a .this)) (now (a .earlier)) (a .row) (p .0) (p .1) (p .2) (p .3)
           (sym (k .new) ∙ c .if1 .taken),
       (k .order, k .inside),
     )
@@ -22,10 +24,11 @@ returns-2 c =
     let e = c .before .before in
     let s = e .before in
     let t = s .before .before .before in
+    let a = t .args in
     let p = t .pre in
     let k = e .stretch-in2 .ensures in (
       ap accepted (k .bytes)
-          ∙ new-in-earlier (now (t .args .this)) (now (t .args .earlier)) (t .args .row) (p .0) (p .1) (p .2)
+          ∙ new-in-earlier (a .edition) (now (a .this)) (now (a .earlier)) (a .row) (p .0) (p .1) (p .2) (p .3)
           (sym (s .stretch-in .ensures .new) ∙ c .before .if1 .left) (sym (k .new) ∙ c .if2 .taken),
       (k .order, k .inside),
     )
@@ -35,8 +38,9 @@ returns-3 c =
     let e = c .before .before in
     let s = e .before in
     let t = s .before .before .before in
+    let a = t .args in
     let p = t .pre in (
-      new-in-neither (now (t .args .this)) (now (t .args .earlier)) (t .args .row) (p .0) (p .1) (p .2)
+      new-in-neither (a .edition) (now (a .this)) (now (a .earlier)) (a .row) (p .0) (p .1) (p .2) (p .3)
           (sym (s .stretch-in .ensures .new) ∙ c .before .if1 .left) (sym (e .stretch-in2 .ensures .new) ∙ c .if2 .left),
       tt,
     )

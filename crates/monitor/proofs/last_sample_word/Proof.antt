@@ -12,7 +12,7 @@ returns : tie.Need-returns
 unfolding lastSampleWordOf
 returns c =
     let start = c .before .before in
-    let facts = last-sample-word-facts (now (start .args .bytes)) (start .pre) in
+    let facts = last-sample-word-facts (start .args .edition) (now (start .args .bytes)) (start .pre .0) (start .pre .1) in
     let e = ap lastSampleWord (c .rate-of .ensures) in
     (e, omega (arith, e, facts .0), omega (arith, e, facts .1))
 

@@ -10,18 +10,18 @@ use Rattle.monitor.proofs.stretch_in.Tie as tie
 returns : tie.Need-returns
 returns c =
     let w = c .before in
-    let n = w .before in
-    let a = n .before .before .args in
+    let m = w .before in
+    let a = m .before .before .args in
     let b = now (a .bytes) in
-    let n-is = n .last-sample-word .ensures .0 in
+    let m-is = m .last-sample-word .ensures .0 in
     let w-is = w .words-of .ensures .0 in
     record {
       order = search needs;
       inside = search needs;
-      bytes = stretch-bytes b (n .last-sample-word .result) (a .row) (w .words-of .result) n-is w-is;
+      bytes = stretch-bytes (a .edition) b (m .last-sample-word .result) (a .row) (w .words-of .result) m-is w-is;
       new =
           ap (λ (x : ℕ). eqb x 1) (c .read-bits .ensures .0)
-          ∙ stretch-new b (n .last-sample-word .result) (a .row) (w .words-of .result) n-is w-is;
+          ∙ stretch-new (a .edition) b (m .last-sample-word .result) (a .row) (w .words-of .result) m-is w-is;
     }
 
 pub stretch-in-spec : {M : Type 1} → statement M

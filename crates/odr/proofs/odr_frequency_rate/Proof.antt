@@ -10,8 +10,9 @@ returns : tie.Need-returns
 unfolding frequencyRateAnswer
 returns c =
     let f = c .before in
-    let b = now (f .before .before .args .bytes) in
-    frequency-rate-told (recordRefusal b) (frequencyRateOf b) (f .frequency-rate .result) (f .frequency-rate .ensures)
+    let a = f .before .before .args in
+    let b = now (a .bytes) in
+    frequency-rate-told (recordRefusal (a .edition) b) (frequencyRateOf b) (f .frequency-rate .result) (f .frequency-rate .ensures)
     (c .frequency-rate-out .ensures)
 
 pub odr-frequency-rate-spec : {M : Type 1} → statement M

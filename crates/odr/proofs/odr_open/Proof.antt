@@ -1,4 +1,5 @@
 use denote.Ref.{now}
+use Rattle.index_model.specs.Records.{inEdition}
 use Rattle.index_model.specs.Buffers.{lent}
 use Rattle.index_model.specs.Opening.{openingOf, openRefusal, openAnswer}
 use Rattle.c_answers.proofs.Told.{open-told}
@@ -11,7 +12,7 @@ unfolding openAnswer
 returns c =
     let t = c .before .before .before .before .before in
     let a = t .before .before .before .before .before .before .args in
-    let p = now (a .pattern) in
+    let p = inEdition (a .edition) (now (a .pattern)) in
     let F = a .first-second in
     let C = a .second-count in
     let R = a .highest-number in

@@ -5,7 +5,7 @@ use denote.Ref.{now}
 use Rattle.answers.specs.Answer.{Answer, accepted, refused}
 use Rattle.answers.proofs.Refusals.{unless-none, unless-some}
 use Rattle.fields.specs.Table.{readAll}
-use Rattle.header.specs.Format.{fields1985}
+use Rattle.header.specs.Edition.{fieldsOf}
 use Rattle.record.specs.Record.{recordRefusal, noValues, headerAnswer}
 use Rattle.odr.specs.Out.{valueOr}
 use borrow.Author.Needs.{needs}
@@ -16,9 +16,10 @@ returns : tie.Need-returns
 unfolding headerAnswer
 returns c =
     let a = c .before .before .before .args in
+    let n = a .edition in
     let b = now (a .bytes) in
     let e = c .before .refusal-of .ensures in
-    let p = ap (λ (n : ℕ). refused noValues n) e ∙ unless-some (recordRefusal b) noValues (readAll fields1985 b)
+    let p = ap (λ (k : ℕ). refused noValues k) e ∙ unless-some (recordRefusal n b) noValues (readAll (fieldsOf n) b)
     (λ z. c .if1 .taken (e ∙ z)) in
     (ap (λ (x : Answer (List ℕ)). x .number) p, ap (valueOr (a .values .now)) p)
 
@@ -28,9 +29,10 @@ returns-2 c =
     let passed = c .before .before in
     let judged = passed .before in
     let a = judged .before .before .args in
+    let n = a .edition in
     let b = now (a .bytes) in
     let none = sym (judged .refusal-of .ensures) ∙ passed .if1 .left in
-    let p = ap accepted (c .read-into .ensures) ∙ unless-none (recordRefusal b) noValues (readAll fields1985 b) none in
+    let p = ap accepted (c .read-into .ensures) ∙ unless-none (recordRefusal n b) noValues (readAll (fieldsOf n) b) none in
     (ap (λ (x : Answer (List ℕ)). x .number) p, ap (valueOr (a .values .now)) p)
 
 pub odr-read-header-spec : {M : Type 1} → statement M

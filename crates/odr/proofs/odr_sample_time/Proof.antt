@@ -10,8 +10,9 @@ unfolding timeAnswer
 returns c =
     let t = c .before in
     let a = t .before .before .args in
+    let n = a .edition in
     let b = now (a .bytes) in
-    time-told (timeRefusal b (a .k)) (sampleTime b (a .k)) (t .sample-time .result) (t .sample-time .ensures)
+    time-told (timeRefusal n b (a .k)) (sampleTime n b (a .k)) (t .sample-time .result) (t .sample-time .ensures)
     (c .time-out .ensures)
 
 pub odr-sample-time-spec : {M : Type 1} → statement M

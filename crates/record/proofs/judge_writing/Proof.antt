@@ -15,7 +15,8 @@ returns c =
     let k = c .before in
     let f = k .before in
     let j = f .before in
-    let reading = j .first-check .ensures ∙ ap (λ (x : Judged). first (checks x)) (j .before .judged-values .ensures) in
+    let n = j .before .before .args .edition in
+    let reading = j .first-check .ensures ∙ ap (λ (x : Judged). first (checks n x)) (j .before .judged-values .ensures) in
     let wide = k .check .ensures ∙ ap (λ (t : Bool). first (22 when not t ∷ [])) (f .binaries-fit .ensures) in
     c .first-refusal .ensures ∙ (λ i. reading i then wide i)
 

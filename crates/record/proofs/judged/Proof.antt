@@ -1,6 +1,8 @@
+use mathlib.Core.Path.{_∙_}
 use lib.ListN.{length}
 use denote.Ref.{now}
 use borrow.Author.Needs.{needs}
+use Rattle.header.proofs.Sound.{digits-common}
 use Rattle.record.proofs.judged.Statement.{statement}
 use Rattle.record.proofs.judged.Tie as tie
 
@@ -18,22 +20,23 @@ returns c =
     let c2 = c3 .before in
     let c1 = c2 .before in
     let digits = c1 .before in
+    let a = digits .before .before .args in
     λ i.
     record {
-      bytes = length (now (digits .before .before .args .bytes));
+      bytes = length (now (a .bytes));
       «length_words» = c1 .read-field .ensures i;
       conversion = c2 .read-field2 .ensures i;
       compression = c3 .read-field3 .ensures i;
-      «sample_rate» = c4 .read-field4 .ensures i;
-      «tape_number» = c5 .read-field5 .ensures i;
-      «record_number» = c6 .read-field6 .ensures i;
-      year = c7 .read-field7 .ensures i;
-      day = c8 .read-field8 .ensures i;
-      «time_tag» = c9 .read-field9 .ensures i;
-      «readback_tag» = c10 .read-field10 .ensures i;
-      decimals = digits .all-digits-good .ensures i;
-      «clock_origin» = c11 .read-field11 .ensures i;
-      sync = c .read-field12 .ensures i;
+      «sample_rate» = c4 .sample-rate-in .ensures i;
+      «tape_number» = c5 .read-field4 .ensures i;
+      «record_number» = c6 .read-field5 .ensures i;
+      year = c7 .read-field6 .ensures i;
+      day = c8 .read-field7 .ensures i;
+      «time_tag» = c9 .read-field8 .ensures i;
+      «readback_tag» = c10 .read-field9 .ensures i;
+      decimals = (digits .all-digits-good .ensures ∙ digits-common (a .edition) (now (a .bytes))) i;
+      «clock_origin» = c11 .read-field10 .ensures i;
+      sync = c .sync-word-in .ensures i;
     }
 
 pub judged-spec : {M : Type 1} → statement M

@@ -2,7 +2,7 @@ use mathlib.Core.Path.{_∙_, sym}
 use denote.Ref.{now}
 use lib.ListN.{length}
 use Rattle.fields.specs.Table.{writeAll}
-use Rattle.header.specs.Format.{fields1985}
+use Rattle.header.specs.Edition.{fieldsOf}
 use Rattle.record.specs.Record.{writeRefusal, afterWriting}
 use Rattle.answers.proofs.Refusals.{cond-none, cond-some}
 use borrow.Author.Needs.{needs}
@@ -24,11 +24,12 @@ returns c =
     let w = c .before .before in
     let t = w .before .before in
     let a = t .before .before .before .args in
+    let n = a .edition in
     let b = now (a .bytes) in
     let e = sym (t .before .judge-writing .ensures) ∙ t .if1 .taken in (
       sym e,
-      w .write-values .ensures ∙ sym (cond-none (writeRefusal (length b) (a .values)) b
-          (writeAll fields1985 (a .values) b) e),
+      w .write-values .ensures ∙ sym (cond-none (writeRefusal n (length b) (a .values)) b
+          (writeAll (fieldsOf n) (a .values) b) e),
     )
 
 returns-2 : tie.Need-returns-2
@@ -36,9 +37,10 @@ unfolding afterWriting
 returns-2 c =
     let j = c .before in
     let a = j .before .before .args in
+    let n = a .edition in
     let b = now (a .bytes) in (
       j .judge-writing .ensures,
-      sym (cond-some (writeRefusal (length b) (a .values)) b (writeAll fields1985 (a .values) b)
+      sym (cond-some (writeRefusal n (length b) (a .values)) b (writeAll (fieldsOf n) (a .values) b)
           (λ z. c .if1 .left (j .judge-writing .ensures ∙ z))),
     )
 

@@ -10,10 +10,11 @@ returns : tie.Need-returns
 returns c =
     let j = c .before in
     let s = j .before in
+    let n = s .before .before .args .edition in
     let b = now (s .before .before .args .bytes) in
     let some = c .if1 .taken in (
-      j .judge .ensures ∙ judged-by-stretch b _ _ _ _ (s .sample-stretch .ensures),
-      (buffer-kept _ b some 1 _, (buffer-kept _ b some 2 _, (buffer-kept _ b some 3 _, buffer-kept _ b some 4 _))),
+      j .judge .ensures ∙ judged-by-stretch n b _ _ _ _ (s .sample-stretch .ensures),
+      (buffer-kept _ n b some 1 _, (buffer-kept _ n b some 2 _, (buffer-kept _ n b some 3 _, buffer-kept _ n b some 4 _))),
     )
 
 returns-2 : tie.Need-returns-2
@@ -24,18 +25,19 @@ returns-2 c =
     let one = two .before .before .before in
     let i = one .before .before in
     let s = i .before .before in
+    let n = s .before .before .args .edition in
     let b = now (s .before .before .args .bytes) in
     let e = s .sample-stretch .ensures in
-    let n = i .before .judge .ensures ∙ judged-by-stretch b _ _ _ _ e in
-    let r = room b _ _ _ _ n (i .if1 .left) in (
-      sym (i .if1 .left) ∙ n,
+    let j = i .before .judge .ensures ∙ judged-by-stretch n b _ _ _ _ e in
+    let r = room n b _ _ _ _ j (i .if1 .left) in (
+      sym (i .if1 .left) ∙ j,
       (
-        buffer-filled b _ e (r .inside) 1 _ _ refl (r .first) (one .demultiplex .ensures),
+        buffer-filled n b _ e (r .inside) 1 _ _ refl (r .first) (one .demultiplex .ensures),
         (
-          buffer-filled b _ e (r .inside) 2 _ _ refl (r .second) (two .demultiplex2 .ensures),
+          buffer-filled n b _ e (r .inside) 2 _ _ refl (r .second) (two .demultiplex2 .ensures),
           (
-            buffer-filled b _ e (r .inside) 3 _ _ refl (r .third) (three .demultiplex3 .ensures),
-            buffer-filled b _ e (r .inside) 4 _ _ refl (r .fourth) (four .demultiplex4 .ensures),
+            buffer-filled n b _ e (r .inside) 3 _ _ refl (r .third) (three .demultiplex3 .ensures),
+            buffer-filled n b _ e (r .inside) 4 _ _ refl (r .fourth) (four .demultiplex4 .ensures),
           ),
         ),
       ),

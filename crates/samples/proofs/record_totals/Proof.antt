@@ -19,23 +19,25 @@ returns : tie.Need-returns
 unfolding totalsAnswer
 returns c =
     let a = c .before .before in
+    let n = a .before .before .args .edition in
     let b = now (a .before .before .args .bytes) in
     let e = a .refusal-of .ensures in
     c .no-totals .ensures
-    ∙ ap (λ (n : ℕ). refused noTotals n) e
-    ∙ unless-some (recordRefusal b) noTotals (totalsOf (stretchOf b) (sampleCount b)) (λ z. c .before .if1 .taken (e ∙ z))
+    ∙ ap (λ (k : ℕ). refused noTotals k) e
+    ∙ unless-some (recordRefusal n b) noTotals (totalsOf (stretchOf n b) (sampleCount n b)) (λ z. c .before .if1 .taken (e ∙ z))
 
 returns-2 : tie.Need-returns-2
 unfolding totalsAnswer
 returns-2 c =
     let s = c .before in
     let a = s .before .before in
+    let n = a .before .before .args .edition in
     let b = now (a .before .before .args .bytes) in
     let e = s .sample-stretch .ensures in
     let z = sym (a .refusal-of .ensures) ∙ s .before .if1 .left in
     ap (λ (t : List Total). accepted t)
-    (c .stretch-totals .ensures ∙ (λ i. totalsOf (e i) (setCount (e i))) ∙ whole-totals b (accepted-inside b z))
-    ∙ unless-none (recordRefusal b) noTotals (totalsOf (stretchOf b) (sampleCount b)) z
+    (c .stretch-totals .ensures ∙ (λ i. totalsOf (e i) (setCount (e i))) ∙ whole-totals n b (accepted-inside n b z))
+    ∙ unless-none (recordRefusal n b) noTotals (totalsOf (stretchOf n b) (sampleCount n b)) z
 
 pub record-totals-spec : {M : Type 1} → statement M
 record-totals-spec =

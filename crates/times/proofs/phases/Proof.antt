@@ -5,6 +5,7 @@ use denote.Ref.{now}
 use Rattle.answers.specs.Answer.{accepted, refused}
 use Rattle.answers.proofs.Refusals.{unless-none, unless-some}
 use Rattle.header.specs.Rows.{phase1, phase2}
+use Rattle.header.specs.Edition.{fractionBits}
 use Rattle.record.specs.Record.{recordRefusal}
 use Rattle.times.specs.Phases.{phasesOf, phaseAnswer}
 use Rattle.times.proofs.Counts.{exactly}
@@ -16,9 +17,10 @@ returns : tie.Need-returns
 unfolding phaseAnswer
 returns c =
     let j = c .before in
+    let n = j .before .before .args .edition in
     let b = now (j .before .before .args .bytes) in (
-      ap (λ (n : ℕ). refused [] n) (j .refusal-of .ensures)
-          ∙ unless-some (recordRefusal b) [] (phasesOf b) (λ z. c .if1 .taken (j .refusal-of .ensures ∙ z)),
+      ap (λ (k : ℕ). refused [] k) (j .refusal-of .ensures)
+          ∙ unless-some (recordRefusal n b) [] (phasesOf n b) (λ z. c .if1 .taken (j .refusal-of .ensures ∙ z)),
       tt,
     )
 
@@ -29,11 +31,13 @@ returns-2 c =
     let one = second .before in
     let first = one .before in
     let j = first .before .before in
+    let n = j .before .before .args .edition in
     let b = now (j .before .before .args .bytes) in
-    let p = exactly phase1 b refl refl (one .cycles .result) _ (first .read-field .ensures) (one .cycles .ensures) in
-    let q = exactly phase2 b refl refl (c .cycles2 .result) _ (second .read-field2 .ensures) (c .cycles2 .ensures) in (
+    let bits = fractionBits n in
+    let p = exactly bits phase1 b refl refl refl (one .cycles .result) _ (first .read-field .ensures) (one .cycles .ensures) in
+    let q = exactly bits phase2 b refl refl refl (c .cycles2 .result) _ (second .read-field2 .ensures) (c .cycles2 .ensures) in (
       (λ i. accepted (p .0 i ∷ q .0 i ∷ []))
-          ∙ unless-none (recordRefusal b) [] (phasesOf b) (sym (j .refusal-of .ensures) ∙ first .before .if1 .left),
+          ∙ unless-none (recordRefusal n b) [] (phasesOf n b) (sym (j .refusal-of .ensures) ∙ first .before .if1 .left),
       (p .1, q .1),
     )
 

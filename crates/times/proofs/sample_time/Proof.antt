@@ -10,7 +10,7 @@ use Rattle.answers.proofs.Refusals.{unless-none, unless-some}
 use Rattle.fields.proofs.OneField.{value-lt}
 use Rattle.header.specs.Rows.{timeTag}
 use Rattle.sample_rates.specs.declared.SampleRate.{SampleRate}
-use Rattle.sample_rates.specs.Rates.{samplesPerRecord, intervalUs}
+use Rattle.sample_rates.specs.Rates.{rateHz, samplesPerRecord}
 use Rattle.times.specs.SampleTime.{timeOf, sampleTime, timeRefusal, timeAnswer}
 use Rattle.times.proofs.Timed.{is-sample}
 use borrow.Author.Needs.{needs}
@@ -19,7 +19,8 @@ use Rattle.times.proofs.sample_time.Tie as tie
 
 -- the refusal that was worked out
 refusal-is : (c : tie.After-first-refusal)
-    → c .first-refusal .result ≡ timeRefusal (now (c .before .before .before .before .before .before .args .bytes))
+    → c .first-refusal .result ≡ timeRefusal (c .before .before .before .before .before .before .args .edition)
+    (now (c .before .before .before .before .before .before .args .bytes))
     (c .before .before .before .before .before .before .args .k)
 unfolding timeRefusal
 refusal-is c =
@@ -39,23 +40,19 @@ returns c =
 
 time-of-requires : tie.Need-time-of-requires
 time-of-requires c κs =
-    let n = c .before in
-    let z = n .before in (
-      subst (λ (n : ℕ). n < 2 ^ 27) (sym (c .read-field .ensures)) (value-lt timeTag _ refl),
-      n .interval-us .ensures .1,
-      is-sample _ _ (refusal-is (z .before)) (z .if1 .left),
+    let z = c .before in (
+      subst (λ (n : ℕ). n < 2 ^ 27) (sym (c .read-field .ensures)) (value-lt timeTag _ refl refl),
+      is-sample _ _ _ (refusal-is (z .before)) (z .if1 .left),
     )
 
 returns-2 : tie.Need-returns-2
 unfolding timeAnswer sampleTime
 returns-2 c =
     let t = c .before in
-    let n = t .before in
-    let z = n .before in
+    let z = t .before in
     let line = z .before .before .before .before .before in
-    let interval = n .interval-us .ensures .0 ∙ ap intervalUs (line .rate-of .ensures) in
     ap (λ (x : ℕ). accepted x) (c .time-of .ensures
-    ∙ (λ i. timeOf (t .read-field .ensures i) (interval i) (line .before .before .args .k)))
+    ∙ (λ i. timeOf (t .read-field .ensures i) (rateHz (line .rate-of .ensures i)) (line .before .before .args .k)))
     ∙ unless-none _ 0 _ (sym (refusal-is (z .before)) ∙ z .if1 .left)
 
 pub sample-time-spec : {M : Type 1} → statement M
@@ -63,5 +60,5 @@ sample-time-spec =
     tie.close
     (tie.spec
     (λ c κs. search needs) (λ c κs. search needs) (λ c κs. search needs) (λ c κs. search needs) returns
-    (λ c κs. search needs) (λ c κs. search needs) time-of-requires
+    (λ c κs. search needs) time-of-requires
     returns-2)

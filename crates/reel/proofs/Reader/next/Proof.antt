@@ -1,5 +1,5 @@
--- A walk of the MIR, by hand: the reader is taken apart, `next_place` is called on the reel and the place, and the reader is
--- made anew at the place that comes back. Assumes nothing.
+-- A walk of the MIR, by hand: the reader is taken apart, `next_place` is called on the edition, the reel and the place, and the
+-- reader is made anew at the place that comes back. Assumes nothing.
 use mathlib.Core.Path.{_≡_, refl, ap, _∙_}
 use Prim.Native.Nat.{ℕ, _<_, _^_}
 use mathlib.Core.List.{[], _∷_}
@@ -54,7 +54,7 @@ abbrev number : Slot 1
 number = plain (λ _. usize)
 
 abbrev is-place : Promise number
-is-place κs d r = r ≡ nextPlace (now (d .reel)) (d .place)
+is-place κs d r = r ≡ nextPlace (d .edition) (now (d .reel)) (d .place)
 
 abbrev reader : Slot 1
 reader = plain B
@@ -79,7 +79,7 @@ module _ {M : Type 1} (𝓤 : URA M) (H : Heap 𝓤) (A : Atoms 𝓤) (W : Given
       -- [the token; what the reader owns]: of a second copy, the number's facts take the place of place's
       move ! (1 ∷ []) $ use1 W (‵ (Own κ d) ⊛ ‵ (Own κ d)) (held.twice 𝓤 H A W κ q d) $ split ! $
       owned ! usize (Is usize) (uint-makes 𝓤 H A W w64) r _ (refl, fits) $ move ! (1 ∷ 0 ∷ []) $
-      use2 W (‵ (Own κ (at-place d r))) (own-put 𝓤 H A W (D (κ, tt)) (L (κ, tt)) 1 (vd (κ, tt) d) r (mach d)) $
+      use2 W (‵ (Own κ (at-place d r))) (own-put 𝓤 H A W (D (κ, tt)) (L (κ, tt)) 2 (vd (κ, tt) d) r (mach d)) $
       move ! (0 ∷ 2 ∷ 1 ∷ []) $ by ! (contracts.method-ends reader is-moved 𝓤 H A W κ q d (at-place d r) (mach (at-place d r))
       (ap (at-place d) e ∙ moved-by d (stepOf d)))
 
@@ -88,36 +88,44 @@ module _ {M : Type 1} (𝓤 : URA M) (H : Heap 𝓤) (A : Atoms 𝓤) (W : Given
       (contracts.method-post reader is-moved 𝓤 H A W κ q d))
   walk wt =
       qed W (raw (held.reader-held 𝓤 H A W κ q d) ∷ []) ∵ enter ! C Λ code.function (mach d ∷ []) _ $
-      alloc1 ! (λ l₀. alloc1 ! (λ l₁. alloc1 ! (λ l₂. alloc1 !
-      (λ l₃. alloc1 ! (λ l₄. alloc1 ! (λ l₅. alloc0 ! $ params1 ! $ pass1 ! (init ! 8 refl wt) $ pass0 ! $
-      assigns ! (of-opd ! (load ! (from ! (fld ! refl (stop !))) (look-in ! 8 (sub ! 0 refl (whole !))))) (from ! (stop !))
-      (init ! 4 refl (tt, wt .1 .0)) $
-      assigns ! (of-opd ! (load ! (from ! (fld ! refl (stop !))) (look-in ! 8 (sub ! 1 refl (whole !))))) (from ! (stop !))
-      (init ! 2 refl (tt, wt .1 .1 .0)) $
-      move ! (12 ∷ []) $ use1 W (raw (F .pre to) ⊛ ‵ (Own κ d))
-      (held.apart 𝓤 H A W κ q d (F .pre to) (contracts.function-asks number is-place 𝓤 H A W κ q d) (wt .1 .1 .0 .fits)) $
+      alloc1 ! (λ l₀. alloc1 ! (λ l₁. alloc1 ! (λ l₂. alloc1 ! (λ l₃. alloc1 ! (λ l₄. alloc1 !
+      (λ l₅. alloc1 ! (λ l₆. alloc1 ! (λ l₇. alloc0 ! $ params1 ! $ pass1 ! (init ! 12 refl wt) $ pass0 ! $
+      assigns ! (of-opd ! (load ! (from ! (fld ! refl (stop !))) (look-in ! 12 (sub ! 0 refl (whole !))))) (from ! (stop !))
+      (init ! 8 refl (tt, wt .1 .0)) $
+      assigns ! (of-opd ! (load ! (from ! (fld ! refl (stop !))) (look-in ! 12 (sub ! 1 refl (whole !))))) (from ! (stop !))
+      (init ! 6 refl (tt, wt .1 .1 .0)) $
+      assigns ! (of-opd ! (load ! (from ! (fld ! refl (stop !))) (look-in ! 12 (sub ! 2 refl (whole !))))) (from ! (stop !))
+      (init ! 4 refl (tt, wt .1 .1 .1 .0)) $
+      move ! (16 ∷ []) $ use1 W (raw (F .pre to) ⊛ ‵ (Own κ d))
+      (held.apart 𝓤 H A W κ q d (F .pre to) (contracts.function-asks number is-place 𝓤 H A W κ q d)
+      (wt .1 .0 .fits, wt .1 .1 .1 .0 .fits)) $
       split ! $
-      calls-at ! fm F known to (and-then ! (load ! (from ! (stop !)) (look ! 6 refl))
-      (and-then ! (load ! (from ! (stop !)) (look ! 4 refl)) (no-more !))) (λ u.
+      calls-at ! fm F known to (and-then ! (load ! (from ! (stop !)) (look ! 10 refl))
+      (and-then ! (load ! (from ! (stop !)) (look ! 8 refl))
+      (and-then ! (load ! (from ! (stop !)) (look ! 6 refl)) (no-more !)))) (λ u.
       use1 W (later (some (λ (r : ℕ). ((‵ (flft κ q) ⊛ ‵ ftrue) ⊛ ‵ (usize .own r (u ∷ []))) ⊛ raw
-      (ensured 𝓤 H A (function number) (function-says number is-place 𝓤) (κ, tt) (d .reel, (d .place, tt)) tt r))))
+      (ensured 𝓤 H A (function number) (function-says number is-place 𝓤) (κ, tt) (d .edition, (d .reel, (d .place, tt))) tt r))))
       (id⊢ 𝓤 _) $ await ! tt $ pick ! (λ r.
       split ! $ move ! (1 ∷ []) $ use1 W (raw (fact 𝓤 (is-place (κ, tt) d r)))
       (contracts.function-said number is-place 𝓤 H A W κ q d r) $
       heard ! (is-place (κ, tt) d r) (λ e. split ! $ move ! (1 ∷ []) $
-      -- [the result; the token; what the reader owns; _5; …; _4; …; _3; …; _2; …; _1; …; room for _0; …]
+      -- [the result; the token; what the reader owns; _7; …; _6; …; down to _1; …; room for _0; …]
       peeks ! usize (Is usize) (shows 𝓤 H A usize) r (u ∷ []) (λ is.
-      land ! (from ! (stop !)) (init ! 9 refl (uint-lawful 𝓤 H A W w64 .typed r _ is .0)) $
-      rewrite ! 9 (λ (w : Val). ‵ (fat fullShare (tyInt w64) l₂ 0 w)) (ap only (is .0)) refl $
-      assigns ! (of-opd ! (load ! (from ! (fld ! refl (stop !))) (look-in ! 11 (sub ! 0 refl (whole !))))) (from ! (stop !))
-      (init ! 3 refl (tt, wt .1 .0)) $
-      assigns ! (agg ! (and-then ! (load ! (from ! (stop !)) (look ! 3 refl))
-      (and-then ! (load ! (from ! (stop !)) (look ! 9 refl)) (no-more !)))) (from ! (stop !))
-      (init ! 13 refl (tt, (wt .1 .0, (record { fits = is .1 }, tt)))) $
-      returns ! (look ! 13 refl) $ forget ! 3 refl $ forget ! 5 refl $ forget ! 7 refl $ forget ! 9 refl $ forget ! 11 refl $
-      forget ! 13 refl $
-      move ! (13 ∷ 14 ∷ []) $ free1 ! $ move ! (11 ∷ 12 ∷ []) $ free1 ! $ move ! (9 ∷ 10 ∷ []) $ free1 ! $ move ! (7 ∷ 8 ∷ []) $
-      free1 ! $ move ! (5 ∷ 6 ∷ []) $ free1 ! $ move ! (3 ∷ 4 ∷ []) $ free1 ! $ free0 ! $ by ! (exits r u e (is .1))))))))))))
+      land ! (from ! (stop !)) (init ! 13 refl (uint-lawful 𝓤 H A W w64 .typed r _ is .0)) $
+      rewrite ! 13 (λ (w : Val). ‵ (fat fullShare (tyInt w64) l₂ 0 w)) (ap only (is .0)) refl $
+      assigns ! (of-opd ! (load ! (from ! (fld ! refl (stop !))) (look-in ! 15 (sub ! 0 refl (whole !))))) (from ! (stop !))
+      (init ! 5 refl (tt, wt .1 .0)) $
+      assigns ! (of-opd ! (load ! (from ! (fld ! refl (stop !))) (look-in ! 15 (sub ! 1 refl (whole !))))) (from ! (stop !))
+      (init ! 3 refl (tt, wt .1 .1 .0)) $
+      assigns ! (agg ! (and-then ! (load ! (from ! (stop !)) (look ! 5 refl))
+      (and-then ! (load ! (from ! (stop !)) (look ! 3 refl))
+      (and-then ! (load ! (from ! (stop !)) (look ! 13 refl)) (no-more !))))) (from ! (stop !))
+      (init ! 17 refl (tt, (wt .1 .0, (wt .1 .1 .0, (record { fits = is .1 }, tt))))) $
+      returns ! (look ! 17 refl) $ forget ! 3 refl $ forget ! 5 refl $ forget ! 7 refl $ forget ! 9 refl $ forget ! 11 refl $
+      forget ! 13 refl $ forget ! 15 refl $ forget ! 17 refl $
+      move ! (17 ∷ 18 ∷ []) $ free1 ! $ move ! (15 ∷ 16 ∷ []) $ free1 ! $ move ! (13 ∷ 14 ∷ []) $ free1 ! $
+      move ! (11 ∷ 12 ∷ []) $ free1 ! $ move ! (9 ∷ 10 ∷ []) $ free1 ! $ move ! (7 ∷ 8 ∷ []) $
+      free1 ! $ move ! (5 ∷ 6 ∷ []) $ free1 ! $ move ! (3 ∷ 4 ∷ []) $ free1 ! $ free0 ! $ by ! (exits r u e (is .1))))))))))))))
 
 pub next-spec : {M : Type 1} → stated.statement M
 unfolding code.routine tablesOf
