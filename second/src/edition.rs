@@ -1,4 +1,4 @@
-//! FORMAT: "The record" and "Rates": the editions of the format, each one value that has all in which they differ.
+//! FORMAT: "Editions" and "Rates": the editions of the format, each one value that has all in which they differ.
 
 use crate::header::{own_1985, own_1992, Own};
 
