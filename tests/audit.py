@@ -40,7 +40,9 @@ def check_promises():
 
 
 def first_error(log):
-    return next((line for line in log.splitlines() if ": error:" in line), "")
+    """The first error's line and the one after it, which an error with a long name runs on to."""
+    lines = log.splitlines()
+    return next((" ".join(lines[at:at + 2]) for at, line in enumerate(lines) if ": error:" in line), "")
 
 
 def check_log(name, log):
