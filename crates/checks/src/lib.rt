@@ -1,4 +1,5 @@
-// Refusal 25 and refusals 1 to 11 of an edition as one chain, over what is judged of a record or of a header to be written. FORMAT, "Refusal numbers".
+// Refusal 25 and refusals 1 to 11 of an edition as one chain, over what is judged of a record or of a header to be written.
+// FORMAT, "Refusal numbers".
 ghost use mathlib.Core.Path.{_≡_};
 ghost use mathlib.Core.Bool.{not};
 ghost use Prim.Native.Nat.{_*_};
@@ -54,9 +55,9 @@ pub fn wrong_date(year: u64, day: u64) -> bool
     (year > 99) | ((day == 0) | (day > last))
 }
 
-// The number of the first check, 25 and then 1 to 11, that applies, or 0. Each line has the checks after its own as what else is given, so
-// the last check comes first; the sample rate, whose lines are branches, is looked up only where its checks are, which leaves
-// little to be kept across them.
+// The number of the first check, 25 and then 1 to 11, that applies, or 0. Each line has the checks after its own as what else
+// is given, so the last check comes first; the sample rate, whose lines are branches, is looked up only where its checks are,
+// which leaves little to be kept across them.
 pub fn first_check(edition: u64, j: Judged) -> u8
     ensures { λ r. ⌜ r ≡ first (checks edition j) ⌝ }
 {

@@ -1,5 +1,5 @@
-// What an edition says beside its rows, by its number. FORMAT, "Editions", "Rates". Every function takes any number; 25 is for those
-// that no edition has, and what the others say of such a number does not matter.
+// What an edition says beside its rows, by its number. FORMAT, "Editions", "Rates". Every function takes any number; 25 is for
+// those that no edition has, and what the others say of such a number does not matter.
 ghost use mathlib.Core.Path.{_≡_};
 ghost use Prim.Native.Nat.{_≤_};
 ghost use Rattle.header.specs.Edition.{isUnknown, headerBytes, otherResolution, noSegments};

@@ -101,7 +101,8 @@ read-write (f ∷ fs) (v ∷ vs) b t d n =
     let c : List ℕ = withValue f v b in
     let head : valueOf f (writeAll fs vs c) ≡ v =
     value-kept f fs vs c (sound-apart (8 * length b) f fs t)
-    ∙ value-with f v b (sound-readable (8 * length b) f fs t) (sound-digits (8 * length b) f fs t) (sound-inside (8 * length b) f fs t)
+    ∙ value-with f v b (sound-readable (8 * length b) f fs t) (sound-digits (8 * length b) f fs t)
+    (sound-inside (8 * length b) f fs t)
     (left (decimalFits f v) (allFit decimalFits fs vs) d) (left (binaryFits f v) (allFit binaryFits fs vs) n) in
     let tail : readAll fs (writeAll fs vs c) ≡ vs =
     read-write fs vs c (still-sound f v b fs (sound-rest (8 * length b) f fs t))
@@ -119,7 +120,8 @@ digits-write (f ∷ fs) (v ∷ vs) b t d n =
     let c : List ℕ = withValue f v b in
     both (digitsGood f (writeAll fs vs c)) (allDigitsGood fs (writeAll fs vs c))
     (subst T (sym (digits-kept f fs vs c (sound-apart (8 * length b) f fs t)))
-    (digits-with f v b (sound-readable (8 * length b) f fs t) (sound-digits (8 * length b) f fs t) (sound-inside (8 * length b) f fs t)
+    (digits-with f v b (sound-readable (8 * length b) f fs t) (sound-digits (8 * length b) f fs t)
+    (sound-inside (8 * length b) f fs t)
     (left (decimalFits f v) (allFit decimalFits fs vs) d) (left (binaryFits f v) (allFit binaryFits fs vs) n)))
     (digits-write fs vs c (still-sound f v b fs (sound-rest (8 * length b) f fs t))
     (right (decimalFits f v) (allFit decimalFits fs vs) d) (right (binaryFits f v) (allFit binaryFits fs vs) n))
@@ -129,7 +131,8 @@ pub write-read : (n : ℕ) (fs : List Field) (b : List ℕ) → T (sound n fs) �
     → writeAll fs (readAll fs b) b ≡ b
 write-read n [] b t h g = refl
 write-read n (f ∷ fs) b t h g =
-    ap (writeAll fs (readAll fs b)) (with-value f b (sound-readable n f fs t) (sound-digits n f fs t) h (left (digitsGood f b) (allDigitsGood fs b) g))
+    ap (writeAll fs (readAll fs b))
+    (with-value f b (sound-readable n f fs t) (sound-digits n f fs t) h (left (digitsGood f b) (allDigitsGood fs b) g))
     ∙ write-read n fs b (sound-rest n f fs t) h (right (digitsGood f b) (allDigitsGood fs b) g)
 
 -- what is read from good digits fits
@@ -166,6 +169,7 @@ pub between-unnamed : (first end : ℕ) (fs : List Field) (i : ℕ) → T (noFie
 between-unnamed first end [] i t p q = tt
 between-unnamed first end (f ∷ fs) i t p q = (
   ⊎-elim (λ h. inr (omega (arith, leb→le (start f + bitWidth f) first h))) (λ h. inl (omega (arith, leb→le end (start f) h)))
-      (either (leb (start f + bitWidth f) first) (leb end (start f)) (left (leb (start f + bitWidth f) first || leb end (start f)) (noField first end fs) t)),
+      (either (leb (start f + bitWidth f) first) (leb end (start f))
+      (left (leb (start f + bitWidth f) first || leb end (start f)) (noField first end fs) t)),
   between-unnamed first end fs i (right (leb (start f + bitWidth f) first || leb end (start f)) (noField first end fs) t) p q,
 )

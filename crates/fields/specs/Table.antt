@@ -13,7 +13,7 @@ abbrev pub readAll : List Field → List ℕ → List ℕ
 readAll [] b = []
 readAll (f ∷ fs) b = valueOf f b ∷ readAll fs b
 
--- the place of a field in a table, counted from 0, by its first bit: in a sound table no two fields share one
+-- the place of a field in a table, counted from 0, by its first bit: in a sound table no two fields that have bits share one
 abbrev pub placeOf : List Field → Field → ℕ
 placeOf [] f = 0
 placeOf (g ∷ gs) f = cond (eqb (start g) (start f)) 0 (suc (placeOf gs f))

@@ -4,7 +4,8 @@ ghost use mathlib.Core.Path.{_≡_};
 ghost use mathlib.Core.Bool.{_&&_};
 ghost use Rattle.fields.specs.Field.{start, encoded, valueOf, withValue, digitsGood, Readable, readable, readValue, writeValue, goodDigits, bitsFit, fitsBinary, fitsDecimal};
 
-// A field: its word and first bit, both counted from 1, its width in bits, and whether it holds decimal digits or a signed number.
+// A field: its word and first bit, both counted from 1, its width in bits, and whether it holds decimal digits or a signed
+// number.
 pub struct Field(pub usize, pub usize, pub usize, pub bool, pub bool);
 
 // The field's first bit, counted from 0.

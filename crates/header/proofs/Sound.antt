@@ -1,5 +1,5 @@
--- What holds of every edition, each fact by a look at the descriptions: the one test of a table of rows, the number of values, and
--- where the values that are judged stand. Assumes nothing.
+-- What holds of every edition, each fact by a look at the descriptions: the one test of a table of rows, the number of values,
+-- and where the values that are judged stand. Assumes nothing.
 use Prim.Native.Nat.{ℕ, _*_}
 use mathlib.Core.Path.{_≡_, refl, ap, sym, _∙_}
 use mathlib.Core.Bool.{Bool, true, false, cond, _&&_}

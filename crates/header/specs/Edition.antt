@@ -1,5 +1,5 @@
--- The editions, each a description: its own rows, where its records have the sample rate, the sync word and the samples, its rates, and
--- what else a reader has to know. FORMAT, "Editions". A further edition is a further description.
+-- The editions, each a description: its own rows, where its records have the sample rate, the sync word and the samples, its
+-- rates, and what else a reader has to know. FORMAT, "Editions". A further edition is a further description.
 use Prim.Native.Nat.{ℕ}
 use mathlib.Core.Bool.{Bool, cond, not, _&&_}
 use mathlib.Core.List.{List}

@@ -159,7 +159,7 @@ register2 = word 40 bits 9 to 16
 abbrev pub empty1985 : Field
 empty1985 = empty-before-word 41
 
--- ## own to 1992: the antenna's RF configuration in word 26, as set and as reported, the predict set's offsets, and words 80 and 81
+-- ## own to 1992: the antenna's RF configuration in word 26, the predict set's offsets, and words 80 and 81
 
 abbrev pub rfConfiguration : Field
 rfConfiguration = word 26 bits 1 to 2

@@ -15,8 +15,8 @@ pub const EDITION_1992: u64 = 1992;
 // The number of a header's values, in every edition.
 pub const FIELD_COUNT: usize = 48;
 
-// Each row: its word, its first bit, its width in bits, and whether the bits are decimal digits or a signed number. Time tags are in milliseconds
-// of the day, frequencies in microhertz.
+// Each row: its word, its first bit, its width in bits, and whether the bits are decimal digits or a signed number. Time tags
+// are in milliseconds of the day, frequencies in microhertz.
 pub const CLOCK_ORIGIN: Field = Field(1, 1, 1, false, false);
 
 pub const SESSION_START: Field = Field(1, 2, 1, false, false);

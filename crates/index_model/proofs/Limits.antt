@@ -114,5 +114,6 @@ line-most (l ∷ ls) hz t = by-test (eqb (l .hz) hz) (line-most ls hz (right (le
 
 pub full-most : (o : Opening) → fullCount o ≤ mostRecords
 unfolding sampleRateOf mostIn
-full-most o = of-editions (λ e. recordsPerSecond (lineIn (e .rate-lines) (o .«sample_rate_hz»)) ≤ mostRecords) (line-most rates1985 _ tt)
-    (line-most rates1992 _ tt) (o .edition)
+full-most o =
+    of-editions (λ e. recordsPerSecond (lineIn (e .rate-lines) (o .«sample_rate_hz»)) ≤ mostRecords)
+    (line-most rates1985 _ tt) (line-most rates1992 _ tt) (o .edition)

@@ -5,11 +5,12 @@ use mathlib.Core.List.{List, [], _∷_}
 use lib.Dec.{eqb, leb, ltb}
 use lib.ListN.{length, getD}
 use Rattle.lists.specs.Tests.{all}
+use Rattle.sample_rates.specs.Rates.{layout1985}
 use Rattle.monitor.specs.declared.SegmentWords.{SegmentWords}
 
--- the words after the samples, in an edition that has segments
+-- the words after the samples, in an edition that has segments: 150, as its layout says
 abbrev pub monitorWords : ℕ
-monitorWords = 150
+monitorWords = layout1985 .monitor-words
 
 -- a row: the first and the last word, both counted from 1 after N, and the segment's number
 infixl 20 words_to_segment_

@@ -64,7 +64,8 @@ pub extern "C" fn odr_sample_rate(edition: u64, hz: u64) -> RateLineAnswer
     editions::rate_line(edition, hz)
 }
 
-// The values of a record's header, in the order of the edition's table, into the array lent. They go there as they are read: an answer by value would copy them.
+// The values of a record's header, in the order of the edition's table, into the array lent. They go there as they are read: an
+// answer by value would copy them.
 #[no_mangle]
 pub extern "C" fn odr_read_header(edition: u64, bytes: &[u8], values: &mut [u64; FIELD_COUNT]) -> u8
     ensures { λ r. ⌜ r ≡ headerAnswer edition (now (bytes .entry)) .number ⌝ }

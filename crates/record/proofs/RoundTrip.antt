@@ -120,7 +120,8 @@ read-is-written n b bytes e =
     let d : allFit decimalFits (fieldsOf n) v ≡ allDigitsGood (fieldsOf n) b = holds _ (small .0) ∙ sym (f .good) in
     let w : allFit binaryFits (fieldsOf n) v ≡ true = holds _ (small .1) in
     let r : writeRefusal n (length b) v ≡ 0 =
-    then-none _ _ (ap (λ (t : Bool). judged n t v (length b)) d ∙ sym (refusal-read n b) ∙ e) ∙ ap (λ (t : Bool). first (22 when not t ∷ [])) w in (
+    then-none _ _ (ap (λ (t : Bool). judged n t v (length b)) d ∙ sym (refusal-read n b) ∙ e)
+    ∙ ap (λ (t : Bool). first (22 when not t ∷ [])) w in (
       r,
       cond-none (writeRefusal n (length b) v) b (writeAll (fieldsOf n) v b) r
           ∙ write-read (8 * headerBytes n) (fieldsOf n) b (fields-sound n) bytes (held (allDigitsGood (fieldsOf n) b) (f .good)),

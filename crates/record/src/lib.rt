@@ -1,5 +1,5 @@
-// Records of an edition: which are accepted, their header read and written, and their samples' stretch. FORMAT, "The record", "Refusal
-// numbers". Every public function takes any bytes; a refusal is a number, and 0 is none.
+// Records of an edition: which are accepted, their header read and written, and their samples' stretch. FORMAT, "The record",
+// "Refusal numbers". Every public function takes any bytes; a refusal is a number, and 0 is none.
 ghost use mathlib.Core.Path.{_≡_};
 ghost use Prim.Native.Nat.{_≤_};
 ghost use lib.ListN.{length};
@@ -63,8 +63,8 @@ fn judged(edition: u64, bytes: &[u8]) -> Judged
     }
 }
 
-// The refusal of the bytes as a record of the edition, 25 or 1 to 11, or 0 where they are accepted. The length is tested first, so
-// that no field past this test has to be.
+// The refusal of the bytes as a record of the edition, 25 or 1 to 11, or 0 where they are accepted. The length is tested first,
+// so that no field past this test has to be.
 pub fn refusal_of(edition: u64, bytes: &[u8]) -> u8
     ensures { λ r. ⌜ r ≡ recordRefusal edition (now (bytes .entry)) ⌝ }
 {
@@ -94,7 +94,8 @@ pub fn read_header(edition: u64, bytes: &[u8]) -> HeaderAnswer
     }
 }
 
-// What 1 to 11 judge of values to be written into this many bytes. The values that are judged have the same places in each edition.
+// What 1 to 11 judge of values to be written into this many bytes. The values that are judged have the same places in each
+// edition.
 fn judged_values(edition: u64, bytes: usize, values: [u64; FIELD_COUNT]) -> Judged
     ensures { λ r. ⌜ r ≡ judgedOf edition bytes (valueIn (fieldsOf edition) values) (allFit decimalFits (fieldsOf edition) values) ⌝ }
 {
@@ -126,8 +127,8 @@ fn judge_writing(edition: u64, bytes: usize, values: [u64; FIELD_COUNT]) -> u8
     answers::first_refusal(refusal, answers::check(22, !fit, 0))
 }
 
-// The values go into the header of a record of their length. Bits that no field names and all bytes past the header stay. A list of
-// values has no edition of its own: it is taken for one of the edition named.
+// The values go into the header of a record of their length. Bits that no field names and all bytes past the header stay. A
+// list of values has no edition of its own: it is taken for one of the edition named.
 pub fn write_header(edition: u64, bytes: &mut [u8], values: [u64; FIELD_COUNT]) -> u8
     ensures { λ r. ⌜ r ≡ writeRefusal edition (length (now (bytes .entry))) values ⌝ }
     ensures { λ r. ⌜ now (bytes .exit) ≡ afterWriting edition (now (bytes .entry)) values ⌝ }

@@ -95,8 +95,8 @@ mostSamples = 1000
 
 -- ## the one test of a table
 
--- what a record of an edition has beside its samples: the bytes of the header before them, and after them the monitor words and, in
--- the longer of a rate's two lengths, the operator offsets
+-- what a record of an edition has beside its samples: the bytes of the header before them, and after them the monitor words
+-- and, in the longer of a rate's two lengths, the operator offsets
 pub record Layout : Type 0 where
   pub header-bytes : ℕ
   pub monitor-words : ℕ
@@ -108,8 +108,8 @@ layout1985 = record { header-bytes = 80; monitor-words = 150; offset-words = 5 }
 abbrev pub layout1992 : Layout
 layout1992 = record { header-bytes = 166; monitor-words = 0; offset-words = 0 }
 
--- L records of a line's samples make a second of the rate, a million divides evenly, the header and four bytes a sample end at word
--- N, the monitor words follow, and in the longer record the operator offsets
+-- L records of a line's samples make a second of the rate, a million divides evenly, the header and four bytes a sample end at
+-- word N, the monitor words follow, and in the longer record the operator offsets
 abbrev pub lineTests : Layout → SampleRate → List Bool
 lineTests layout l =
     leb 1 (rateHz l) ∷

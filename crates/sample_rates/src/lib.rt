@@ -45,8 +45,8 @@ pub fn no_rate() -> SampleRate
     line(0, 0, 0, 0, 0, 0)
 }
 
-// The line of a rate of 1985, or a line of zeros where no line has it. Each line is a branch: a search through an array of lines would
-// first write the whole array to memory, at each call.
+// The line of a rate of 1985, or a line of zeros where no line has it. Each line is a branch: a search through an array of
+// lines would first write the whole array to memory, at each call.
 pub fn rate_1985(hz: u64) -> SampleRate
     ensures { λ r. ⌜ r ≡ lineIn rates1985 hz ⌝ }
 {

@@ -1,5 +1,5 @@
--- Values and codes of a signed number, over the width: the value of a code fits and has that code, and a value that fits is the one
--- of its code. Assumes nothing.
+-- Values and codes of a signed number, over the width: the value of a code fits and has that code, and a value that fits is the
+-- one of its code. Assumes nothing.
 use Prim.Native.Nat.{ℕ, zero, suc, _+_, _-_, _*_, _/_, _%_, _^_, _≤_, _<_}
 use mathlib.Core.Path.{_≡_, refl, ap, sym, _∙_, subst}
 use mathlib.Core.Bool.{Bool, true, false, cond, _&&_, _||_}
@@ -56,7 +56,8 @@ module _ (p q : ℕ) (c : Codes p q) where
       let e = c .even in
       let m = c .more in
       ⊎-elim
-      (λ l. subst (λ (z : ℕ). T (fitsBy p q z)) (sym (lower p q x l)) (held (fitsBy p q x) (ap (λ (t : Bool). t || (leb (q - p / 2) x && ltb x q)) (lt-ltb x (p / 2) l))))
+      (λ l. subst (λ (z : ℕ). T (fitsBy p q z)) (sym (lower p q x l))
+      (held (fitsBy p q x) (ap (λ (t : Bool). t || (leb (q - p / 2) x && ltb x q)) (lt-ltb x (p / 2) l))))
       (λ u. subst (λ (z : ℕ). T (fitsBy p q z)) (sym (upper p q x u))
       (held (fitsBy p q (x + (q - p))) (λ i. le-ltb (x + (q - p)) (p / 2) (omega (arith, e, m, h, u)) i
       || (le-leb (q - p / 2) (x + (q - p)) (omega (arith, e, m, h, u)) i
@@ -99,7 +100,11 @@ codes : (w : ℕ) → 1 ≤ w → w ≤ widest → Codes (2 ^ w) (2 ^ 64)
 codes w some few =
     let e : 2 ^ 64 ≡ 2 ^ w * 2 ^ (64 - w) =
     ap (λ (z : ℕ). 2 ^ z) (let s : 64 ≡ w + (64 - w) = omega arith in s) ∙ pow-add 2 w (64 - w) in
-    record { even = whole w some; more = omega (arith, few-codes w few); rest = (2 ^ (64 - w) - 1, less-one (2 ^ w) (2 ^ (64 - w)) (2 ^ 64) e (pow-pos (64 - w))) }
+    record {
+      even = whole w some;
+      more = omega (arith, few-codes w few);
+      rest = (2 ^ (64 - w) - 1, less-one (2 ^ w) (2 ^ (64 - w)) (2 ^ 64) e (pow-pos (64 - w)));
+    }
 
 module _ (w : ℕ) (some : 1 ≤ w) (few : w ≤ widest) where
   pub value-code : (x : ℕ) → x < 2 ^ w → signedValue w x % 2 ^ w ≡ x

@@ -1,5 +1,5 @@
--- Signed numbers, two's complement. FORMAT, "The record". A value is held as the computer holds one of 64 bits: a negative number x as
--- 2^64 + x.
+-- Signed numbers, two's complement. FORMAT, "The record". A value is held as the computer holds one of 64 bits: a negative
+-- number x as 2^64 + x.
 use Prim.Native.Nat.{ℕ, _+_, _-_, _/_, _^_}
 use mathlib.Core.Bool.{Bool, cond, _&&_, _||_}
 use lib.Dec.{leb, ltb}

@@ -1,5 +1,6 @@
-// Signed numbers of a few bits, two's complement, read as numbers of 64 bits; written, such a number gives its lowest bits, as any
-// other does. FORMAT, "The record". A width above the widest counts as the widest, so no function here asks anything of its caller.
+// Signed numbers of a few bits, two's complement, read as numbers of 64 bits; written, such a number gives its lowest bits, as
+// any other does. FORMAT, "The record". A width above the widest counts as the widest, so no function here asks anything of its
+// caller.
 ghost use mathlib.Core.Path.{_≡_};
 ghost use Prim.Native.Nat.{_%_, _^_, _≤_, _<_, min};
 ghost use Rattle.bits.specs.Bits.{widest};

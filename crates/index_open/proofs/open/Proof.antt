@@ -13,7 +13,8 @@ use Rattle.index_open.proofs.open.Tie as tie
 -- where the code clears, there is no refusal
 none : (c : tie.Then1)
     → let a = c .before .before .before .before .before .before .before .before .args in openRefusal
-    (inEdition (a .edition) (now (a .pattern))) (a .first-second) (a .second-count) (a .highest-number) (lent (now (a .rows)) (now (a .seconds))) ≡ 0
+    (inEdition (a .edition) (now (a .pattern))) (a .first-second) (a .second-count) (a .highest-number)
+    (lent (now (a .rows)) (now (a .seconds))) ≡ 0
 none c =
     let j = c .before in
     sym (judged _ _ _ _ _ (j .before .before .before .opening-of .ensures) (j .judge .ensures)) ∙ c .if1 .taken

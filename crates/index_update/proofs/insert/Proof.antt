@@ -50,7 +50,8 @@ returns-2 c =
     let j = c .before in
     let a = j .before .before .before .before .before .before .before .before .args in
     let e = j .judge-insert .ensures in
-    let kept = put-refused (a .o) (inEdition (a .edition) (a .bytes .now)) (lent (a .rows .now) (a .seconds .now)) (λ z. c .if1 .left (e ∙ z)) in
+    let kept = put-refused (a .o) (inEdition (a .edition) (a .bytes .now))
+    (lent (a .rows .now) (a .seconds .now)) (λ z. c .if1 .left (e ∙ z)) in
     (e, (ap (λ (b : Buffers). b .rows) kept, ap (λ (b : Buffers). b .seconds) kept))
 
 pub insert-spec : {M : Type 1} → statement M

@@ -15,7 +15,8 @@ returns c =
     let w = l .lesser .result in
     let v = l .before .args .value in
     (λ i. ltb v (c .code-count .ensures .0 i / 2) || ltb (2 ^ 64 - 1 - v) (c .code-count .ensures .0 i / 2))
-    ∙ ap (λ (t : Bool). ltb v (2 ^ w / 2) || t) (from-top (2 ^ w / 2) v (let h = few-codes w (search needs) in omega (arith, h)) (l .before .fits .value .fits))
+    ∙ ap (λ (t : Bool). ltb v (2 ^ w / 2) || t)
+    (from-top (2 ^ w / 2) v (let h = few-codes w (search needs) in omega (arith, h)) (l .before .fits .value .fits))
     ∙ ap (λ (n : ℕ). signedFits n v) (l .lesser .ensures)
 
 pub fits-spec : {M : Type 1} → statement M
