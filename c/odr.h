@@ -91,7 +91,7 @@ enum odr_field {
     ODR_SPC = 11,
     ODR_YEAR = 12,                   /* of the century */
     ODR_DAY = 13,                    /* of the year, from 1 */
-    ODR_TIME_TAG_MS = 14,            /* milliseconds of the day, of the first sample */
+    ODR_TIME_TAG_MS = 14,            /* milliseconds of the day, of the third sample of each channel, sample 2 */
     ODR_PREDICT_0 = 15,              /* the predict set's ten bytes */
     ODR_PREDICT_1 = 16,
     ODR_PREDICT_2 = 17,
@@ -178,11 +178,11 @@ uint8_t odr_write_samples(uint64_t edition, uint8_t *record, size_t record_len, 
                           const int8_t *two, size_t two_len, const int8_t *three, size_t three_len,
                           const int8_t *four, size_t four_len);
 
-/* The time of sample k, counted from 0, in microseconds of the day, rounded down. 25, 1 to 11, 12 where the record has no
- * sample k. */
+/* The time of sample k, counted from 0, in microseconds from 0 h of the record's day, below zero on the day before: the tag is
+ * the time of sample 2, the third. Rounded down. 25, 1 to 11, 12 where the record has no sample k. */
 typedef struct {
     uint8_t refusal;
-    uint64_t microseconds;
+    int64_t microseconds;
 } odr_time_answer;
 odr_time_answer odr_sample_time(uint64_t edition, const uint8_t *record, size_t record_len, uint64_t k);
 
@@ -266,8 +266,8 @@ odr_open_answer odr_open(uint64_t edition, const uint8_t *pattern, size_t patter
                          uint64_t second_count, uint64_t highest_number, uint32_t *rows, size_t rows_len, uint32_t *seconds,
                          size_t seconds_len);
 
-/* Inserts a record of the edition named under its number, in place of any there. 25, 1 to 11, 13, 14, 15 also where the edition
- * is not that of the index, 16 to 18. */
+/* Inserts a record of the edition named under its number, in place of any there. Its second is that of its time tag. 25, 1 to 11,
+ * 13, 14, 15 also where the edition is not that of the index, 16 to 18. */
 uint8_t odr_insert(odr_opening opening, uint64_t edition, const uint8_t *record, size_t record_len, uint32_t *rows,
                    size_t rows_len, uint32_t *seconds, size_t seconds_len);
 

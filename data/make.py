@@ -44,6 +44,10 @@ class Reel:
     def origin(self, n):
         return 1 if n % self.per_second == 0 else 0
 
+    def first_us(self, n):
+        """The time of sample 0, two intervals before the tag."""
+        return 1000 * self.tag_ms(n) + (0 - 2) * 10**6 // self.rate
+
     def frequency_uhz(self, n):
         return self.readback_uhz + self.units() * (self.tag_ms(n) - self.tag_ms(0)) // 100
 
@@ -111,7 +115,7 @@ class Reel:
         frequency, rate = self.frequency_uhz(n), abs(self.units())
         minus = "-" if self.units() < 0 else ""
         hertz = f"{frequency // 10**6}.{frequency % 10**6:06d}"
-        return f"{n + 1},{1000 * self.tag_ms(n)},{self.origin(n)},{hertz},{minus}{rate // 10**5}.{rate % 10**5:05d}\n"
+        return f"{n + 1},{self.first_us(n)},{self.origin(n)},{hertz},{minus}{rate // 10**5}.{rate % 10**5:05d}\n"
 
     def files(self, name):
         count = self.seconds * self.per_second

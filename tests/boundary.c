@@ -20,14 +20,16 @@ _Static_assert(ODR_LONGEST_RECORD >= 2 * (83 + 2 * 1000), "header and samples of
 _Static_assert(sizeof(odr_opening) == 10 * 8, "an opening is ten numbers");
 _Static_assert(sizeof((odr_segment_answer){0}.bytes) == ODR_LONGEST_SEGMENT, "a segment's bytes");
 _Static_assert(ODR_LONGEST_SEGMENT == 2 * (50 - 6 + 1), "segment 7 is the longest: monitor words 6 to 50");
+_Static_assert(_Generic((odr_time_answer){0}.microseconds, int64_t : 1, default : 0), "a time is signed");
 _Static_assert(sizeof((odr_totals_answer){0}.channels) == 4 * sizeof(odr_total), "four channels");
 _Static_assert(sizeof((odr_second_answer){0}.channels) == 4 * sizeof(odr_total), "four channels");
 _Static_assert(sizeof((odr_means_answer){0}.channels) == 4 * sizeof(odr_means), "four channels");
 _Static_assert(ODR_FINISHED > (int)ODR_NO_SEGMENTS && ODR_FINISHED <= UINT8_MAX, "finished is no refusal and fits an answer");
 
 /* The longest line: a number of 5 digits, microseconds of 11, an origin of 1, 8 digits of hertz with a point and 6 places, a
- * minus and 7 digits of hertz a second with a point and 5 places, four commas and a line feed. */
-#define LONGEST_LINE "65535,86399999000,1,99999999.999999,-9999900.00000\n"
+ * minus and 7 digits of hertz a second with a point and 5 places, four commas and a line feed. The microseconds are 10,000 before
+ * the tag's; those below zero have 6 characters at most, -10000. */
+#define LONGEST_LINE "65535,86399989000,1,99999999.999999,-9999900.00000\n"
 enum { HEADER_LINE = 41, LINE = 5 + 11 + 1 + 15 + 14 + 4 + 1, RECORDS = ODR_LONGEST_INPUT / LENGTH_1985 };
 _Static_assert(sizeof LONGEST_LINE - 1 == LINE && LINE == 51 && RECORDS == 84, "the longest line, the most records");
 _Static_assert(ODR_LONGEST_LISTING == HEADER_LINE + RECORDS * LINE + sizeof "refused,1\n" - 1, "the longest listing");
@@ -37,7 +39,7 @@ typedef struct {
     size_t header;  /* bytes of it */
     size_t length;  /* bytes of the record */
     size_t samples; /* of a channel */
-    uint8_t bytes[LENGTH_1992];
+    uint8_t bytes[ODR_LONGEST_RECORD];
 } example;
 
 static example of_1985 = {ODR_EDITION_1985, 80, LENGTH_1985, 100, {0}};
@@ -56,6 +58,23 @@ static void set_words(uint8_t *bytes, const unsigned (*words)[2], size_t count) 
     for (size_t i = 0; i < count; i++) {
         set_word(bytes, (int)words[i][0], words[i][1]);
     }
+}
+
+/* A tag of 27 bits: eleven in word 7, behind five that stay, and sixteen in word 8. */
+static void set_tag(example *r, uint64_t ms) {
+    set_word(r->bytes, 7, (word(r->bytes, 7) & 0xF800) | (unsigned)(ms >> 16));
+    set_word(r->bytes, 8, (unsigned)(ms & 0xFFFF));
+}
+
+/* The record at another rate, with so many samples a channel: two words for each, beside 40 + 150 others in 1985, 83 in 1992. */
+static example at_rate(const example *given, unsigned hz, unsigned samples) {
+    example r = *given;
+    unsigned words = (r.edition == ODR_EDITION_1985 ? 190 : 83) + 2 * samples;
+    r.length = 2 * words;
+    r.samples = samples;
+    set_word(r.bytes, 3, words);
+    set_word(r.bytes, r.edition == ODR_EDITION_1985 ? 37 : 80, hz);
+    return r;
 }
 
 static uint8_t refusal(const example *r) {
@@ -321,14 +340,54 @@ static void totals(const example *r) {
     print_channels(totals.channels);
 }
 
-/* Noon is 43,200,000,000 microseconds. Samples are 5,000 apart at 200 a second and 2,000 at 500: the last is 99 * 5,000 later in
- * 1985, and 249 * 2,000 in 1992. */
+/* Noon is 43,200,000,000 microseconds, and the time of sample 2. Samples are 5,000 apart at 200 a second and 2,000 at 500: sample
+ * 0 is 2 * 5,000 or 2 * 2,000 before noon, the last 97 * 5,000 after it in 1985, and 247 * 2,000 in 1992. */
 static void times(const example *r) {
     const uint64_t asked[] = {0, r->samples - 1, r->samples, UINT64_MAX};
     for (size_t i = 0; i < COUNT(asked); i++) {
         odr_time_answer time = odr_sample_time(r->edition, r->bytes, r->length, asked[i]);
-        printf("sample_time %u %" PRIu64 "\n", time.refusal, time.microseconds);
+        printf("sample_time %u %" PRId64 "\n", time.refusal, time.microseconds);
     }
+}
+
+static void print_times(const example *given, unsigned hz, unsigned samples) {
+    static const uint64_t tags[] = {0, 1, 10, 86399999};
+    const uint64_t asked[] = {0, 1, 2, 3, samples - 1, samples};
+    example r = at_rate(given, hz, samples);
+    for (size_t t = 0; t < COUNT(tags); t++) {
+        set_tag(&r, tags[t]);
+        printf("sample_time at %u, tag %" PRIu64 ":", hz, tags[t]);
+        for (size_t i = 0; i < COUNT(asked); i++) {
+            odr_time_answer time = odr_sample_time(r.edition, r.bytes, r.length, asked[i]);
+            printf("%s %u %" PRId64, i == 0 ? "" : ",", time.refusal, time.microseconds);
+        }
+        printf("\n");
+    }
+}
+
+/* Samples 0 to 3, the last, and the one after it, 12. They are 5,000 apart at 200 a second, 20 at 50,000, the fastest rate of
+ * both editions, and 32 at 31,250, which 1992 alone has. The tag is the time of sample 2: samples 0 and 1 are two intervals and
+ * one before it, and the last is 97, 997 or 622 after it. With tag 0 the first two are on the day before; with the day's last
+ * millisecond, 86,399,999, those from 1 ms after the tag on are on the day after. */
+static void times_of_tags(const example *r) {
+    print_times(r, 200, 100);
+    print_times(r, 50000, 1000);
+    if (r->edition == ODR_EDITION_1992) {
+        print_times(r, 31250, 625);
+    }
+}
+
+/* Beside a refusal a time is 0, also that of sample 0 with tag 0: of an unknown edition, 25, and of a byte less than a header, 1;
+ * a tag of 86,400,000 is 9. */
+static void refused_times(const example *given) {
+    example r = *given;
+    set_tag(&r, 0);
+    odr_time_answer unknown = odr_sample_time(1986, r.bytes, r.length, 0);
+    odr_time_answer cut = odr_sample_time(r.edition, r.bytes, r.header - 1, 0);
+    set_tag(&r, 86400000);
+    odr_time_answer past = odr_sample_time(r.edition, r.bytes, r.length, 0);
+    printf("sample_time refused: %u %" PRId64 ", %u %" PRId64 ", %u %" PRId64 "\n", unknown.refusal, unknown.microseconds,
+           cut.refusal, cut.microseconds, past.refusal, past.microseconds);
 }
 
 /* The edition is that of the earlier record. */
@@ -543,14 +602,31 @@ static void forge(const example *r) {
     call_all("no opening", r, 1, NOON);
 }
 
+/* An index of one second: the day's first, its second one, its last. A record's second is that of its tag, though samples 0 and 1
+ * are earlier: of tag 0 it is second 0 and not one of the day before, of 999 second 0, of 1,000 second 1. In an index of another
+ * second that is 17. Numbers are 1, 2, 3 and 1. */
+static void seconds_of_tags(const example *given) {
+    static const uint64_t asked[] = {0, 1, 86399}, tags[] = {0, 999, 1000, 86399999};
+    example r = *given;
+    for (size_t i = 0; i < COUNT(asked); i++) {
+        uint64_t second = asked[i];
+        odr_open_answer answer =
+            odr_open(r.edition, r.bytes, r.length, second, 1, NUMBERS, rows, ROW_CELLS, seconds, SECOND_CELLS);
+        opening = answer.opening;
+        printf("index of second %" PRIu64 ":", second);
+        for (unsigned t = 0; t < COUNT(tags); t++) {
+            set_tag(&r, tags[t]);
+            printf(" tag %" PRIu64 " is %u,", tags[t], insert(&r, t % NUMBERS + 1));
+        }
+        printf(" %u records\n", odr_query(opening, second, rows, ROW_CELLS, seconds, SECOND_CELLS).records);
+    }
+}
+
 /* A record of 1985, and one of 1992 at 200 samples a second, which has 283 words; an index opened with each. Named as the other
  * edition the record is 3, by its conversion bit. A record of the other is 15. So is the record itself where the index holds the
  * other edition, and nothing else differs. */
 static void editions_in_an_index(void) {
-    example slow = of_1992;
-    slow.length = 2 * 283;
-    set_word(slow.bytes, 3, 283);
-    set_word(slow.bytes, 80, 200);
+    example slow = at_rate(&of_1992, 200, 100);
     const example *records[] = {&of_1985, &slow};
     for (int i = 0; i < 2; i++) {
         const example *r = records[i];
@@ -646,6 +722,33 @@ static void texts(void) {
     print_text("list of 65,537 bytes", odr_list(too_long, sizeof too_long, text, sizeof text), text);
 }
 
+static void line_of_tag(const char *name, const example *given, uint64_t tag, size_t room) {
+    uint8_t text[100];
+    example r = *given;
+    set_tag(&r, tag);
+    print_text(name, odr_record_line(r.bytes, r.length, text, room), text);
+}
+
+/* The second column is two intervals before the tag: 10,000 at 200 a second, 40 at 50,000. In place of the 11 characters of noon
+ * it has 6 with tag 0, a minus among them, 5 with tag 9, 1 with tag 10, which is 0 and has none; at 50,000 it has 3 and, at its
+ * greatest, 11. So the lines have 30, 29, 25, 27 and 35 bytes. The listing of tags 0 and 10 has 41 + 30 + 25 = 96. */
+static void lines_of_tags(void) {
+    uint8_t text[100], reel[2 * LENGTH_1985];
+    example slow = of_1985, fast = at_rate(&of_1985, 50000, 1000);
+    line_of_tag("record_line of tag 0", &slow, 0, 29);
+    line_of_tag("record_line of tag 0", &slow, 0, 30);
+    line_of_tag("record_line of tag 9", &slow, 9, 100);
+    line_of_tag("record_line of tag 10", &slow, 10, 100);
+    line_of_tag("record_line at 50,000, tag 0", &fast, 0, 100);
+    line_of_tag("record_line at 50,000, tag 86,399,999", &fast, 86399999, 100);
+    set_tag(&slow, 0);
+    memcpy(reel, slow.bytes, LENGTH_1985);
+    set_tag(&slow, 10);
+    memcpy(reel + LENGTH_1985, slow.bytes, LENGTH_1985);
+    print_text("list of tags 0 and 10", odr_list(reel, sizeof reel, text, 95), text);
+    print_text("list of tags 0 and 10", odr_list(reel, sizeof reel, text, 96), text);
+}
+
 /* 84 records with the longest line, and the 16 bytes that 65,536 have left, which are 1: 41 + 84 * 51 + 10 = 4,335 bytes. A
  * refusal of two digits takes 80 bytes or more, so that 83 records at most stand before it. Number 65,535; tag 86,399,999,
  * 5265BFF hex; fourteen nines; 99,999 times 10^7 units, bits 13 to 16 of word 27 being 111 and 0, minus. */
@@ -684,11 +787,14 @@ static void one_edition(example *r) {
     samples(r);
     totals(r);
     times(r);
+    times_of_tags(r);
+    refused_times(r);
     reels(r);
     shortest_lengths(r);
     fill(r);
     change(r);
     forge(r);
+    seconds_of_tags(r);
 }
 
 /* The record of 1992 by its module: 91 hex is clock origin 1, conversion bit 1, compression 0001; year 92 and day 275 are 1011100
@@ -721,6 +827,7 @@ int main(void) {
     under_the_other(&of_1992, ODR_EDITION_1985, 37);
     unknown_editions();
     texts();
+    lines_of_tags();
     longest();
     return 0;
 }

@@ -2,7 +2,7 @@
 //! seconds" and "The ledger".
 
 use crate::lent::{around, Lent};
-use crate::records::{any_record, date, outcome, total};
+use crate::records::{any_record, date, met_time, outcome, total};
 use crate::run::{answer, day_word, Answer, Part, Run, Said};
 use odr::{ConsistencyAnswer, MeansAnswer, OpenAnswer, SecondAnswer, CELLS};
 use second::book::{self, Ledger, Opening, SecondTotals};
@@ -298,7 +298,11 @@ impl History {
             _ => {}
         }
         let date = if expected == Err(8) { date(record.body()) } else { self.held_date() };
+        let held = matches!(said, Said::Is(0));
         self.compare(run, ("odr_insert", kind), date, actual, said, &[("record", record.difference())]);
+        if held {
+            met_time(run, "odr_insert", edition, record.body(), 0);
+        }
     }
 
     fn remove(&mut self, run: &mut Run, number: u64) {

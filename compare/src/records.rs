@@ -126,12 +126,35 @@ pub fn phases(run: &mut Run) {
     read(run, "odr_phases", samples::phases, given, odr::phases);
 }
 
+/// Counts what a record that was not refused met besides, by the time of its sample k.
+pub fn met_time(run: &mut Run, call: &str, edition: u64, record: &[u8], k: u64) {
+    let (Ok(header), Ok(time)) = (record::read_header(edition, record), samples::sample_time(edition, record, k)) else { return };
+    run.met_besides(call, &format!("{edition} tag {} at {}", header.time_tag_ms, header.sample_rate_hz));
+    if time < 0 {
+        run.met_besides(call, &format!("{edition} below zero"));
+    }
+}
+
+/// Samples of the record, the first three and the last more often, and such as it does not have.
 pub fn sample_time(run: &mut Run) {
-    let any = run.rng.within(0, 1000);
-    let samples = gen::any_rate(&mut run.rng).samples;
-    let k = run.rng.pick(&[any, any, any, 0, samples - 1, samples - 1, samples, samples, 1 << 32, u64::MAX]);
-    let given = |&microseconds: &u64| TimeAnswer { refusal: 0, microseconds };
-    read(run, "odr_sample_time", |e, r| samples::sample_time(e, r, k), given, |e, r| odr::sample_time(e, r, k));
+    let (edition, mut record) = any_record(&mut run.rng);
+    let rng = &mut run.rng;
+    let count = record::record_rate(edition, record.body()).unwrap_or(gen::any_rate(rng)).samples;
+    let (last, any) = (count - 1, rng.within(0, count - 1));
+    let beyond = rng.pick(&[count, count + 1, 1 << 32, u64::MAX]);
+    let k = rng.pick(&[0, 1, 2, any, any, any, last, last, beyond, beyond]);
+    let given = |&microseconds: &i64| TimeAnswer { refusal: 0, microseconds };
+    let expected = answer(&samples::sample_time(edition, record.body(), k), given);
+    let actual = odr::sample_time(edition, record.body(), k);
+    let (call, outcome) = ("odr_sample_time", outcome(edition, record.body(), expected.refusal));
+    run.compare(call, &outcome, actual, expected, &[("record", record.difference())]);
+    if expected.refusal == 0 {
+        met_time(run, call, edition, record.body(), k);
+        run.met_besides(call, &format!("{edition} sample {k}"));
+        if k == last {
+            run.met_besides(call, &format!("{edition} last sample"));
+        }
+    }
 }
 
 /// The second program's total of a channel as the library gives it.
@@ -370,15 +393,20 @@ pub fn any_reel(rng: &mut Rng, edition: &Edition) -> Vec<u8> {
     }
 }
 
+/// The places of a reel's records, and behind them the one where a walk stops.
+pub fn places(edition: u64, reel: &[u8]) -> Vec<usize> {
+    let mut places = vec![0];
+    while let Step::Record { next, .. } = second_step(edition, reel, places[places.len() - 1]) {
+        places.push(next);
+    }
+    places
+}
+
 /// A reel, and a place that is mostly that of a record or the one where a walk stops.
 fn reel_and_place(rng: &mut Rng, edition: &Edition) -> (Lent<u8>, usize) {
     let reel = any_reel(rng, edition);
-    let mut places = vec![0];
-    let mut stop = 0;
-    while let Step::Record { next, .. } = second_step(edition.number, &reel, stop) {
-        places.push(next);
-        stop = next;
-    }
+    let places = places(edition.number, &reel);
+    let stop = places[places.len() - 1];
     let (end, inside, known) = (reel.len(), rng.within(0, reel.len() as u64) as usize, rng.pick(&places));
     let odd = rng.pick(&[inside, end, end + 1, end.saturating_sub(1), usize::MAX, usize::MAX - inside]);
     (Lent::of(&reel), rng.pick(&[stop, stop, known, known, known, odd]))

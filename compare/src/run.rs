@@ -1,7 +1,7 @@
 //! A run of the differential tests: its cases, how often each outcome of each call was met, and the first difference, which ends
 //! it. FORMAT, "Refusal numbers".
 
-use second::edition::{Edition, EDITIONS};
+use second::edition::{Edition, EDITIONS, EDITION_1985};
 use second::gen::Rng;
 use std::fmt::Debug;
 
@@ -18,7 +18,11 @@ use std::fmt::Debug;
 /// - `short`: a buffer of too few cells;
 /// - `left open`: an answer of which FORMAT says no more than what `Said::Open` has.
 ///
-/// A number with a star must be met on day 366 too.
+/// A number with a star must be met on day 366 too. HZ stands for each rate of the edition, in the second list for those of 1985.
+/// What follows is counted besides the number 0:
+/// - `sample`, `last sample`: the one asked for;
+/// - `tag`: the time tag and the rate of the record;
+/// - `below zero`: a time on the day before, of an insert that of sample 0.
 const CALLS: [(&str, &str, &str); 20] = [
     ("odr_refusal", "0*,1-7,8*,9-11,other's 3", "25,few bytes 25"),
     ("odr_read_header", "0*,1-7,8*,9-11,other's 3", "25,few bytes 25"),
@@ -28,15 +32,14 @@ const CALLS: [(&str, &str, &str); 20] = [
         "25,few bytes 25,1985 value 46 22,1985 value 47 22,1992 least 0,1992 greatest 0,1992 below 22,1992 above 22",
     ),
     ("odr_frequency_rate", "0*,1-7,8*,9-11,other's 3", "25,few bytes 25"),
-    (
-        "odr_sample_rate",
-        "50000 0,20000 0,10000 0,5000 0,2000 0,1000 0,200 0,5",
-        "25,1985 other's 5,1992 31250 0,1992 25000 0,1992 15625 0,1992 12500 0,1992 6250 0,1992 4000 0,1992 3125 0,1992 2500 0,\
-         1992 1250 0,1992 500 0,1992 400 0,1992 250 0",
-    ),
+    ("odr_sample_rate", "HZ 0,5", "25,1985 other's 5"),
     ("odr_read_samples", "0*,1-7,8*,9-12,other's 3", "25,few bytes 25"),
     ("odr_write_samples", "0*,1-7,8*,9-12,other's 3", "25,few bytes 25"),
-    ("odr_sample_time", "0*,1-7,8*,9-12,other's 3", "25,few bytes 25"),
+    (
+        "odr_sample_time",
+        "0*,1-7,8*,9-12,other's 3,sample 0-2,last sample,tag 0 at HZ,tag 1 at HZ,tag 86399999 at HZ,below zero",
+        "25,few bytes 25",
+    ),
     ("odr_phases", "0*,1-7,8*,9-11,other's 3", "25,few bytes 25"),
     ("odr_totals", "0*,1-7,8*,9-11,other's 3", "25,few bytes 25"),
     ("odr_segment", "this 1-11,earlier 1-11", "25,1985 this 0,1985 earlier 0,1985 20,1985 23,1992 segment 26,1992 no segment 26"),
@@ -46,7 +49,7 @@ const CALLS: [(&str, &str, &str); 20] = [
         "odr_insert",
         "0*,in place 0*,moved 0*,1-7,8*,9-11,15-18,25,mixed 1-7,mixed 8*,mixed 9-11,mixed 15,short 1-11,short 14,short 25,\
          forged 1-11,forged 13*,forged edition 13,forged rate 13,forged 14-15,forged edition 15,forged 16-17,forged 25,\
-         forged left open",
+         forged left open,below zero",
         "",
     ),
     (
@@ -69,8 +72,16 @@ const CALLS: [(&str, &str, &str); 20] = [
         "yes 0*,no 0*,short 14,forged yes 0,forged no 0,forged 13*,forged edition 13,forged rate 13,forged 14,forged left open",
         "",
     ),
-    ("odr_record_line", "", "0*,1-7,8*,9-11,other's 3,21"),
-    ("odr_list", "", "0,line 1-11,other's line 3,line 24,21"),
+    (
+        "odr_record_line",
+        "",
+        "0*,1-7,8*,9-11,other's 3,21,1985 tag 0 at HZ,1985 tag 1 at HZ,1985 tag 86399999 at HZ,1985 below zero",
+    ),
+    (
+        "odr_list",
+        "",
+        "0,line 1-11,other's line 3,line 24,21,1985 tag 0 at HZ,1985 tag 1 at HZ,1985 tag 86399999 at HZ,1985 below zero",
+    ),
 ];
 
 const DAY_366: &str = "day 366 ";
@@ -88,19 +99,20 @@ pub fn named(edition: u64, words: &str, number: u8) -> String {
 /// The outcomes of a call: those of its first list in each edition, and those of its second.
 fn all_outcomes(each: &str, besides: &str) -> Vec<String> {
     let of = |edition: &Edition| -> Vec<String> {
-        outcomes(each).iter().map(|outcome| format!("{} {outcome}", edition.number)).collect()
+        outcomes(edition, each).iter().map(|outcome| format!("{} {outcome}", edition.number)).collect()
     };
-    [EDITIONS.map(of).concat(), outcomes(besides)].concat()
+    [EDITIONS.map(of).concat(), outcomes(&EDITION_1985, besides)].concat()
 }
 
-/// The outcomes of such a list: a range stands for each of its numbers.
-fn outcomes(list: &str) -> Vec<String> {
+/// The outcomes of such a list: a range stands for each of its numbers, HZ for each rate of the edition.
+fn outcomes(edition: &Edition, list: &str) -> Vec<String> {
     let each = |item: &str| {
         let (words, last) = item.split_at(item.rfind(' ').map_or(0, |at| at + 1));
         let ends = last.split_once('-').and_then(|(low, high)| Some((low.parse().ok()?, high.parse().ok()?)));
         match (ends, last.strip_suffix('*')) {
             (Some((low, high)), _) => (low..=high).map(|number: u8| format!("{words}{number}")).collect(),
             (_, Some(number)) => vec![format!("{words}{number}"), format!("{words}{DAY_366}{number}")],
+            _ if item.contains("HZ") => edition.rates.iter().map(|rate| item.replace("HZ", &rate.hz.to_string())).collect(),
             _ => vec![item.to_string()],
         }
     };
@@ -194,17 +206,39 @@ impl<A: Answer> Said<A> {
 /// A part of lent memory, and how it differs from what is expected.
 pub type Part = (&'static str, Option<String>);
 
+/// The cases of a call, and how often each outcome was met that must be.
+struct Met {
+    call: &'static str,
+    cases: u64,
+    counts: Vec<(String, u64)>,
+}
+
+impl Met {
+    /// Counts an outcome, if it is one that must be met.
+    fn count(&mut self, outcome: &str) -> bool {
+        let count = self.counts.iter_mut().find(|count| count.0 == outcome);
+        count.map(|count| count.1 += 1).is_some()
+    }
+}
+
 pub struct Run {
     pub rng: Rng,
     pub cases: u64,
     seed: u64,
-    met: Vec<(&'static str, Vec<(String, u64)>)>,
+    met: Vec<Met>,
 }
 
 impl Run {
     pub fn new(seed: u64) -> Self {
-        let none = |(call, each, besides)| (call, all_outcomes(each, besides).into_iter().map(|outcome| (outcome, 0)).collect());
+        let none = |(call, each, besides)| {
+            let counts = all_outcomes(each, besides).into_iter().map(|outcome| (outcome, 0)).collect();
+            Met { call, cases: 0, counts }
+        };
         Run { rng: Rng(seed), cases: 0, seed, met: CALLS.map(none).into() }
+    }
+
+    fn met(&mut self, call: &str) -> &mut Met {
+        self.met.iter_mut().find(|met| met.call == call).expect("a call of the table")
     }
 
     /// One compared call whose answer FORMAT says.
@@ -216,31 +250,33 @@ impl Run {
     pub fn compare_as<A: Answer>(&mut self, call: &str, outcome: &str, actual: A, said: Said<A>, parts: &[Part]) {
         self.cases += 1;
         let different: Vec<&Part> = parts.iter().filter(|part| part.1.is_some()).collect();
-        let counts = self.met.iter_mut().find(|met| met.0 == call).map(|met| &mut met.1);
-        let count = counts.and_then(|counts| counts.iter_mut().find(|count| count.0 == outcome));
-        match count {
-            Some(count) if said.allows(actual) && different.is_empty() => count.1 += 1,
-            _ => {
-                println!("DIFFERENT: {call}, seed {}, case {}, outcome {outcome}", self.seed, self.cases);
-                println!("  the library answers {actual:?}\n  the second program {}", said.words());
-                for (name, difference) in different {
-                    println!("  {name}: {}", difference.as_deref().unwrap_or(""));
-                }
-                std::process::exit(1);
-            }
+        let met = self.met(call);
+        met.cases += 1;
+        if said.allows(actual) && different.is_empty() && met.count(outcome) {
+            return;
         }
+        println!("DIFFERENT: {call}, seed {}, case {}, outcome {outcome}", self.seed, self.cases);
+        println!("  the library answers {actual:?}\n  the second program {}", said.words());
+        for (name, difference) in different {
+            println!("  {name}: {}", difference.as_deref().unwrap_or(""));
+        }
+        std::process::exit(1);
+    }
+
+    /// Counts what a case that was compared met besides its outcome, if that must be met.
+    pub fn met_besides(&mut self, call: &str, words: &str) {
+        self.met(call).count(words);
     }
 
     /// Prints the table of outcomes, and gives those that were never met.
     pub fn report(&self) -> Vec<String> {
-        for (call, counts) in &self.met {
-            let total: u64 = counts.iter().map(|count| count.1).sum();
+        for Met { call, cases, counts } in &self.met {
             let each: Vec<String> = counts.iter().map(|(outcome, count)| format!("{outcome}: {count}")).collect();
-            println!("{call}: {total} cases\n    {}", each.join(", "));
+            println!("{call}: {cases} cases\n    {}", each.join(", "));
         }
-        let unmet = |call: &str, counts: &[(String, u64)]| -> Vec<String> {
+        let unmet = |Met { call, counts, .. }: &Met| -> Vec<String> {
             counts.iter().filter(|count| count.1 == 0).map(|count| format!("{call} {}", count.0)).collect()
         };
-        self.met.iter().flat_map(|(call, counts)| unmet(call, counts)).collect()
+        self.met.iter().flat_map(unmet).collect()
     }
 }

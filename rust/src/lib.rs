@@ -17,7 +17,8 @@
 //!     }
 //!     let record = &reel[step.start..step.end];
 //!     assert_eq!(odr::read_header(odr::EDITION_1985, record, &mut header), odr::refusal::NONE);
-//!     println!("record {} at {} ms", header[odr::field::RECORD_NUMBER], header[odr::field::TIME_TAG_MS]);
+//!     let first = odr::sample_time(odr::EDITION_1985, record, 0).microseconds;
+//!     println!("record {} from {first} us on", header[odr::field::RECORD_NUMBER]);
 //!     place = step.end;
 //! }
 //! ```
@@ -125,7 +126,7 @@ pub mod field {
     pub const YEAR: usize = 12;
     /// Of the year, from 1.
     pub const DAY: usize = 13;
-    /// Milliseconds of the day, of the first sample.
+    /// Milliseconds of the day, of the third sample of each channel, sample 2.
     pub const TIME_TAG_MS: usize = 14;
     /// The predict set's first byte of ten.
     pub const PREDICT_0: usize = 15;
@@ -203,8 +204,8 @@ structs! {
     FrequencyRateAnswer { refusal: u8, units: i64 }
     /// The samples that each channel has in a record, the records of a second, the microseconds from one sample to the next.
     SampleRateAnswer { refusal: u8, samples: u64, records: u64, interval_us: u64 }
-    /// Microseconds of the day.
-    TimeAnswer { refusal: u8, microseconds: u64 }
+    /// Microseconds from 0 h of the record's day, below zero on the day before.
+    TimeAnswer { refusal: u8, microseconds: i64 }
     /// The two phases in cycles.
     PhasesAnswer { refusal: u8, first: f64, second: f64 }
     /// Of the samples of a channel.
@@ -339,7 +340,8 @@ pub fn write_samples(edition: u64, record: &mut [u8], [one, two, three, four]: [
     }
 }
 
-/// The time of sample k, counted from 0, rounded down. 25, 1 to 11, 12 where the record has no sample k.
+/// The time of sample k, counted from 0, rounded down: the tag is the time of sample 2, the third. 25, 1 to 11, 12 where the
+/// record has no sample k.
 pub fn sample_time(edition: u64, record: &[u8], k: u64) -> TimeAnswer {
     unsafe { odr_sample_time(edition, record.as_ptr(), record.len(), k) }
 }
@@ -379,8 +381,8 @@ pub fn open(edition: u64, pattern: &[u8], limits: [u64; 3], rows: &mut [u32], se
     }
 }
 
-/// Inserts a record of the edition named under its number, in place of any there. 25, 1 to 11, 13, 14, 15 also where the edition
-/// is not that of the index, 16 to 18.
+/// Inserts a record of the edition named under its number, in place of any there. Its second is that of its time tag. 25, 1 to
+/// 11, 13, 14, 15 also where the edition is not that of the index, 16 to 18.
 pub fn insert(opening: Opening, edition: u64, record: &[u8], rows: &mut [u32], seconds: &mut [u32]) -> u8 {
     unsafe {
         odr_insert(

@@ -108,7 +108,9 @@ pub fn record_with(rng: &mut Rng, edition: &Edition, rate: Rate, words: u64) -> 
     set_word(&mut r, 3, words);
     let year = rng.within(0, 99);
     set_word(&mut r, 6, year << 9 | rng.within(1, last_day(year)));
-    set_tag(&mut r, 7, rng.within(0, LAST_MS));
+    // Half of the time an end of the day, or one of its first milliseconds, where sample 0 may still be of the day before.
+    let (any, early) = (rng.within(0, LAST_MS), rng.within(1, 10));
+    set_tag(&mut r, 7, rng.pick(&[any, any, any, any, 0, 1, early, LAST_MS]));
     set_tag(&mut r, 18, rng.within(0, LAST_MS));
     let few = rng.one_in(4);
     for place in digit_places() {

@@ -12,12 +12,12 @@ pub const LISTED: u64 = 1985;
 /// One record's line.
 pub fn line(record: &[u8]) -> Result<String, u8> {
     let h = read_header(LISTED, record)?;
-    let columns = [h.record_number, sample_time(LISTED, record, 0)?, h.clock_origin, h.readback_uhz];
-    Ok(columns_line(columns, frequency_rate(LISTED, record)?))
+    let (first_us, rate) = (sample_time(LISTED, record, 0)?, frequency_rate(LISTED, record)?);
+    Ok(columns_line(h.record_number, first_us, h.clock_origin, h.readback_uhz, rate))
 }
 
 /// Record number, first sample's microseconds, clock origin and readback in microhertz; the rate in units of 0.00001 Hz/s.
-pub fn columns_line([number, first_us, origin, readback_uhz]: [u64; 4], rate: i64) -> String {
+pub fn columns_line(number: u64, first_us: i64, origin: u64, readback_uhz: u64, rate: i64) -> String {
     let (minus, size) = (if rate < 0 { "-" } else { "" }, rate.unsigned_abs());
     format!(
         "{number},{first_us},{origin},{}.{:06},{minus}{}.{:05}\n",

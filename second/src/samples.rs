@@ -31,13 +31,21 @@ pub fn write_samples(edition: u64, bytes: &mut [u8], channels: [&[i8]; 4]) -> Re
     Ok(())
 }
 
-/// In microseconds of the day, rounded down once.
-pub fn sample_time(edition: u64, bytes: &[u8], k: u64) -> Result<u64, u8> {
+/// The sample that the time tag belongs to, counted from 0: that of the third set.
+const TAGGED: i64 = 2;
+
+/// In microseconds from 0 h of the record's day, below 0 on the day before.
+pub fn sample_time(edition: u64, bytes: &[u8], k: u64) -> Result<i64, u8> {
     let rate = record_rate(edition, bytes)?;
     if k >= rate.samples {
         return Err(12);
     }
-    Ok(1000 * read_header(edition, bytes)?.time_tag_ms + k * 1_000_000 / rate.hz)
+    Ok(time_us(read_header(edition, bytes)?.time_tag_ms, k, rate.hz))
+}
+
+/// Sample k's time by the tag and the rate, rounded down once: `div_euclid` by a number above 0 does so, `/` goes up below 0.
+pub fn time_us(tag_ms: u64, k: u64, hz: u64) -> i64 {
+    1000 * tag_ms as i64 + ((k as i64 - TAGGED) * 1_000_000).div_euclid(hz as i64)
 }
 
 /// Both phases in cycles.

@@ -191,15 +191,20 @@ fn sample_bytes_and_times() {
         let ones = Total { sum: -(count as i64), squares: count, least: -1, greatest: -1 };
         assert_eq!(totals(1992, &r), Ok([ones; 4]));
         assert_eq!((r.len() as u64, means(ones, count).mean), (2 * words, -1.0));
-        assert_eq!(sample_time(1992, &r, 0), Ok(1_000));
-        assert_eq!(sample_time(1992, &r, 1), Ok(1_000 + interval));
-        assert_eq!(sample_time(1992, &r, count - 1), Ok(1_000 + (count - 1) * interval));
+        // The tag is the third sample's time.
+        let interval = interval as i64;
+        for (tag_ms, tag_us) in [(0, 0), (1, 1_000), (86_399_999, 86_399_999_000)] {
+            let times = [0, 1, 2, 3, count - 1].map(|k| sample_time(1992, &plain(hz, 1, tag_ms), k));
+            let intervals = [-2, -1, 0, 1, count as i64 - 3];
+            assert_eq!(times, intervals.map(|intervals| Ok(tag_us + intervals * interval)));
+        }
         for k in [count, u64::MAX] {
             assert_eq!(sample_time(1992, &r, k), Err(12));
         }
     }
-    assert_eq!(sample_time(1992, &plain(31_250, 1, 1), 624), Ok(20_968));
-    assert_eq!(sample_time(1992, &plain(15_625, 1, 86_399_999), 624), Ok(86_400_038_936));
+    assert_eq!([0, 624].map(|k| sample_time(1992, &plain(31_250, 1, 1), k)), [Ok(936), Ok(20_904)]);
+    assert_eq!(sample_time(1992, &plain(15_625, 1, 86_399_999), 624), Ok(86_400_038_808));
+    assert_eq!([0, 1].map(|k| sample_time(1992, &plain(200, 1, 0), k)), [Ok(-10_000), Ok(-5_000)]);
 }
 
 #[test]
@@ -556,6 +561,26 @@ fn books_of_both_editions() {
     assert_eq!(ledger.take_out(&o, 1, 40, 20), Err(13));
     assert_eq!([ledger.ask(&o, 0, 40, 20).err(), ledger.means(&o, 0, 40, 20).err()], [Some(13); 2]);
     assert_eq!(ledger.book_test(&o, 40, 20), Err(13));
+}
+
+/// A record's second is that of its tag, though its first two samples stand in the second before, or on the day before.
+#[test]
+fn the_second_of_the_tag() {
+    let made: [(u64, fn(u64, u64) -> Vec<u8>); 2] = [(1985, of_1985), (1992, |number, tag_ms| plain(200, number, tag_ms))];
+    for (edition, made) in made {
+        let o = open(edition, &made(1, 0), 0, 2, 2, 40, 40).unwrap();
+        let mut ledger = Ledger::default();
+        for (number, tag_ms, first_us) in [(1, 0, -10_000), (2, 1_000, 990_000)] {
+            let r = made(number, tag_ms);
+            assert_eq!(sample_time(edition, &r, 0), Ok(first_us));
+            assert_eq!(ledger.put(&o, edition, &r, 40, 40), Ok(()));
+        }
+        assert_eq!([0, 1].map(|second| ledger.ask(&o, second, 40, 40).unwrap().records), [1, 1]);
+        // The window goes by the tag too.
+        let o = open(edition, &made(1, 0), 1, 1, 2, 40, 20).unwrap();
+        let found = [999, 1_000, 1_999, 2_000].map(|tag_ms| Ledger::default().put(&o, edition, &made(1, tag_ms), 40, 20));
+        assert_eq!(found, [Err(17), Ok(()), Ok(()), Err(17)]);
+    }
 }
 
 #[test]

@@ -1,12 +1,17 @@
 //! FORMAT whole: what the seeded generator makes is what it says, and the answers hang together over it.
 
 use second::book::{open, Ledger, SecondTotals};
-use second::edition::{edition_of, EDITIONS, EDITION_1985};
+use second::edition::{edition_of, Edition, Rate, EDITIONS};
 use second::gen::*;
 use second::lister::listing;
-use second::record::{accept, read_header, write_header};
+use second::record::{accept, read_header, write_header, LAST_MS};
 use second::reel::{step, Step};
 use second::samples::{channels, write_samples};
+
+/// Each rate of each edition.
+fn rates() -> impl Iterator<Item = (&'static Edition, Rate)> {
+    EDITIONS.into_iter().flat_map(|edition| edition.rates.iter().map(move |rate| (edition, *rate)))
+}
 
 #[test]
 fn accepted_records_of_every_rate_and_length() {
@@ -33,6 +38,18 @@ fn accepted_records_of_every_rate_and_length() {
                 write_samples(e, &mut another, samples.each_ref().map(|c| c.as_slice())).unwrap();
                 assert_eq!((read_header(e, &another), channels(e, &another)), (Ok(header), Ok(samples)));
             }
+        }
+    }
+}
+
+#[test]
+fn tags_at_the_ends_of_the_day() {
+    let mut rng = Rng(10);
+    for (edition, rate) in rates() {
+        let mut tag = || read_header(edition.number, &record_of(&mut rng, edition, rate)).unwrap().time_tag_ms;
+        let made: Vec<u64> = (0..200).map(|_| tag()).collect();
+        for tag in [0, 1, LAST_MS] {
+            assert!(made.contains(&tag), "{} {} {tag}", edition.number, rate.hz);
         }
     }
 }
@@ -112,6 +129,20 @@ fn anything_ends_with_an_answer() {
     }
 }
 
+/// Walks a reel: the records' bytes, joined, and the step that ends it.
+fn walk(edition: u64, reel: &[u8]) -> (Vec<u8>, Step) {
+    let (mut place, mut joined) = (0, Vec::new());
+    loop {
+        match step(edition, reel, place) {
+            Step::Record { bytes, next } => {
+                joined.extend_from_slice(&reel[bytes]);
+                place = next;
+            }
+            last => return (joined, last),
+        }
+    }
+}
+
 #[test]
 fn reels() {
     let mut rng = Rng(5);
@@ -123,36 +154,22 @@ fn reels() {
             1 => cut_reel(&mut rng, edition, count),
             _ => damaged_reel(&mut rng, edition, count),
         };
-        let (mut place, mut joined) = (0, Vec::new());
-        let last = loop {
-            match step(edition.number, &reel, place) {
-                Step::Record { bytes, next } => {
-                    joined.extend_from_slice(&reel[bytes]);
-                    place = next;
-                }
-                last => break last,
-            }
-        };
-        assert_eq!(joined, reel[..place]);
+        let (joined, last) = walk(edition.number, &reel);
+        assert_eq!(joined, reel[..joined.len()]);
         assert!(i % 3 != 0 || last == Step::Finished);
-        assert!((last == Step::Finished) == (place == reel.len()));
+        assert!((last == Step::Finished) == (joined.len() == reel.len()));
+        // The lister stays with 1985: a good reel of 1992 is 3 at once, a damaged one may begin with a record of 1985.
         let text = String::from_utf8(listing(&reel)).unwrap();
         let refused = text.lines().last().unwrap().strip_prefix("refused,").map(|n| n.parse().unwrap());
-        if edition.number == EDITION_1985.number {
-            assert_eq!(refused, if let Step::Refused(n) = last { Some(n) } else { None });
-        } else {
-            // The lister stays with 1985.
-            let first = step(1985, &reel, 0);
-            assert_eq!(refused, if let Step::Refused(n) = first { Some(n) } else { None });
-            assert!(first == Step::Finished || refused.is_some());
-        }
+        assert_eq!(refused, if let (_, Step::Refused(n)) = walk(1985, &reel) { Some(n) } else { None });
+        assert!(edition.number == 1985 || i % 3 != 0 || reel.is_empty() || refused == Some(3));
     }
 }
 
 #[test]
 fn whole_seconds_are_kept() {
     let mut rng = Rng(6);
-    for (edition, rate) in EDITIONS.into_iter().flat_map(|edition| edition.rates.iter().map(move |rate| (edition, *rate))) {
+    for (edition, rate) in rates() {
         let pattern = record_of(&mut rng, edition, rate);
         let (rows, cells) = (20 * 200, 20 * 3);
         let o = open(edition.number, &pattern, 86_397, 3, 200, rows, cells).unwrap();

@@ -8,7 +8,7 @@ use second::lister::{columns_line, line, listing, put_line, put_text, put_text_a
 use second::monitor::{segment, SEGMENTS};
 use second::record::{accept, frequency_rate, read_header, write_header};
 use second::reel::{step, Step};
-use second::samples::{means, phases, read_samples, sample_time, total, totals, write_samples, Means, Total};
+use second::samples::{means, phases, read_samples, sample_time, time_us, total, totals, write_samples, Means, Total};
 
 /// The 780 bytes of the listing's case.
 fn case() -> Vec<u8> {
@@ -113,13 +113,44 @@ fn sample_bytes() {
 #[test]
 fn sample_times() {
     let r = plain(50_000, 1, 1);
-    assert_eq!(sample_time(1985, &r, 0), Ok(1_000));
-    assert_eq!(sample_time(1985, &r, 999), Ok(20_980));
+    assert_eq!([0, 2, 999].map(|k| sample_time(1985, &r, k)), [Ok(960), Ok(1_000), Ok(20_940)]);
     assert_eq!(sample_time(1985, &r, 1000), Err(12));
-    assert_eq!(sample_time(1985, &case(), 99), Ok(43_200_000_000 + 99 * 5_000));
+    // The first two samples of a day's first record stand on the day before.
+    let times = [0, 1, 2, 3, 99].map(|k| sample_time(1985, &plain(200, 1, 0), k));
+    assert_eq!(times, [Ok(-10_000), Ok(-5_000), Ok(0), Ok(5_000), Ok(485_000)]);
+    assert_eq!(sample_time(1985, &case(), 0), Ok(43_199_990_000));
+    assert_eq!(sample_time(1985, &case(), 99), Ok(43_200_000_000 + 97 * 5_000));
     assert_eq!(sample_time(1985, &case(), 100), Err(12));
     assert_eq!(sample_time(1985, &case(), u64::MAX), Err(12));
     assert_eq!(sample_time(1985, &[], u64::MAX), Err(1));
+}
+
+#[test]
+fn first_samples() {
+    // The day's first two tags and its last one, at every rate.
+    let lines = [
+        (50_000, [-40, 960, 86_399_998_960]),
+        (20_000, [-100, 900, 86_399_998_900]),
+        (10_000, [-200, 800, 86_399_998_800]),
+        (5_000, [-400, 600, 86_399_998_600]),
+        (2_000, [-1_000, 0, 86_399_998_000]),
+        (1_000, [-2_000, -1_000, 86_399_997_000]),
+        (200, [-10_000, -9_000, 86_399_989_000]),
+    ];
+    for (hz, times) in lines {
+        for (tag_ms, us) in [0, 1, 86_399_999].into_iter().zip(times) {
+            let r = plain(hz, 1, tag_ms);
+            assert_eq!(sample_time(1985, &r, 0), Ok(us));
+            assert_eq!(line(&r), Ok(format!("1,{us},0,0.000000,0.00000\n")));
+        }
+    }
+}
+
+#[test]
+fn times_that_are_not_whole_are_rounded_down() {
+    // No rate of either edition gives one; 3 and 7 a second would.
+    assert_eq!([0, 1, 2, 3, 4].map(|k| time_us(0, k, 3)), [-666_667, -333_334, 0, 333_333, 666_666]);
+    assert_eq!([0, 1, 2, 3, 4].map(|k| time_us(1_000, k, 7)), [714_285, 857_142, 1_000_000, 1_142_857, 1_285_714]);
 }
 
 #[test]
@@ -232,7 +263,7 @@ fn header_fields() {
 
 #[test]
 fn lister_case() {
-    let text = b"record,first_us,origin,poca_hz,rate_hz_s\n1,43200000000,1,42.000000,-1.23450\n";
+    let text = b"record,first_us,origin,poca_hz,rate_hz_s\n1,43199990000,1,42.000000,-1.23450\n";
     assert_eq!(listing(&case()), text);
 }
 
@@ -245,7 +276,7 @@ fn lister_empty() {
 fn lister_lines_before_a_refusal_stay() {
     let bad = with(|r| r[1] = 0);
     let reel = [case(), bad, case()].concat();
-    let text = format!("{HEADER_LINE}1,43200000000,1,42.000000,-1.23450\nrefused,7\n");
+    let text = format!("{HEADER_LINE}1,43199990000,1,42.000000,-1.23450\nrefused,7\n");
     assert_eq!(listing(&reel), text.as_bytes());
     assert_eq!(listing(&case()[..779]), format!("{HEADER_LINE}refused,2\n").as_bytes());
 }
@@ -268,7 +299,7 @@ fn lister_numbers() {
             set_word(r, 26, digits);
             set_word(r, 27, low);
         });
-        assert_eq!(line(&r).unwrap(), format!("65535,0,0,0.000001,{text}\n"));
+        assert_eq!(line(&r).unwrap(), format!("65535,-10000,0,0.000001,{text}\n"));
     }
 }
 
@@ -427,7 +458,8 @@ fn refusal_12() {
                 assert_eq!((&r[..80], &r[end..]), (&before[..80], &before[end..]));
             }
         }
-        assert_eq!(sample_time(1985, &r, rate.samples - 1), Ok((rate.samples - 1) * 1_000_000 / rate.hz));
+        let last_us = (rate.samples - 3) * 1_000_000 / rate.hz;
+        assert_eq!(sample_time(1985, &r, rate.samples - 1), Ok(last_us as i64));
         assert_eq!(sample_time(1985, &r, rate.samples), Err(12));
     }
     let none = || [(); 4].map(|_| <&mut [i8]>::default());
@@ -720,9 +752,11 @@ fn refusal_21() {
 #[test]
 fn lines_of_extreme_numbers() {
     let most = "18446744073709551615";
-    let line = format!("{most},{most},{most},18446744073709.551615,-92233720368547.75808\n");
-    assert_eq!(columns_line([u64::MAX; 4], i64::MIN), line);
-    assert_eq!(columns_line([0, 0, 0, 1], -1), "0,0,0,0.000001,-0.00001\n");
+    let line = format!("{most},-9223372036854775808,{most},18446744073709.551615,-92233720368547.75808\n");
+    assert_eq!(columns_line(u64::MAX, i64::MIN, u64::MAX, u64::MAX, i64::MIN), line);
+    assert_eq!(columns_line(0, i64::MAX, 0, 0, 0), "0,9223372036854775807,0,0.000000,0.00000\n");
+    assert_eq!(columns_line(0, 0, 0, 1, -1), "0,0,0,0.000001,-0.00001\n");
+    assert_eq!(columns_line(0, -1, 0, 1, 1), "0,-1,0,0.000001,0.00001\n");
     assert_eq!(refused_line(u64::MAX), format!("refused,{most}\n"));
 }
 

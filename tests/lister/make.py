@@ -5,7 +5,8 @@
     make.py --check    # writes nothing; fails where a file is not what it would write
 
 It has its own encoder of records and its own formatting of lines, from FORMAT and not from the Rattle code, and the refusal of
-each case is written down here, from its table. It needs Python 3 alone.
+each case is written down here, from its table. The second program, second/target/release/second <NAME.in >NAME.out, has to make
+the same listings: tests/second.sh. It needs Python 3 alone.
 """
 import pathlib
 import struct
@@ -69,12 +70,16 @@ class Record:
         word(38, self.sync)
         return bytes(b)
 
+    def first_us(self):
+        """The time of sample 0, two intervals before the tag."""
+        return 1000 * self.tag_ms + (0 - 2) * 10**6 // self.rate
+
     def line(self):
         units = self.rate_digits * 10**self.power
         minus = "-" if self.sign == 0 and units > 0 else ""
         hertz = f"{self.readback_uhz // 10**6}.{self.readback_uhz % 10**6:06d}"
         rate = f"{minus}{units // 10**5}.{units % 10**5:05d}"
-        return f"{self.number},{1000 * self.tag_ms},{self.origin},{hertz},{rate}\n"
+        return f"{self.number},{self.first_us()},{self.origin},{hertz},{rate}\n"
 
 
 def listing(records, refusal=None):
@@ -89,7 +94,7 @@ def joined(records):
 CASE_WORDS = {
     1: 0x8101, 2: 0x0001, 3: 0x0186, 6: 0xAC18, 7: 0x0293, 8: 0x2E00, 16: 0x4200, 26: 0x0012, 27: 0x3452, 37: 0x00C8, 38: 0xA55A,
 }
-CASE_OUT = "record,first_us,origin,poca_hz,rate_hz_s\n1,43200000000,1,42.000000,-1.23450\n"
+CASE_OUT = "record,first_us,origin,poca_hz,rate_hz_s\n1,43199990000,1,42.000000,-1.23450\n"
 
 
 def the_case():
@@ -111,6 +116,10 @@ MIXED = [
     Record(10, 200, "B", day=366, year=84, tape=255, rate_digits=10000, sign=0, power=1),
     Record(11, 200, "A", day=366, year=0, rate_digits=12345, sign=0, power=1),
 ]
+
+# The tags at the ends of the day, at every rate; and sample 0 a millisecond before 0 h, at it and after it.
+EDGE_TAGS_MS = [0, 1, 86_399_999]
+NEAR_0 = [Record(n, 1000, tag_ms=n) for n in (1, 2, 3)] + [Record(n, 200, tag_ms=n) for n in (9, 10, 11)]
 
 GOOD = Record(7, origin=1)
 AFTER = Record(9)
@@ -146,6 +155,10 @@ def cases():
     yield "empty", b"", HEADER_LINE
     yield "case-of-01", the_case(), CASE_OUT
     yield "every-rate", joined(MIXED), listing(MIXED)
+    for tag_ms in EDGE_TAGS_MS:
+        tagged = [Record(number, rate, tag_ms=tag_ms) for number, rate in enumerate(LAST_SAMPLE_WORD, 1)]
+        yield f"every-rate-tag-{tag_ms}", joined(tagged), listing(tagged)
+    yield "first-sample-near-0", joined(NEAR_0), listing(NEAR_0)
 
     good = GOOD.bytes()
     yield "refused-1", good + AFTER.bytes()[:79], listing([GOOD], 1)

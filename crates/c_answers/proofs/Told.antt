@@ -48,14 +48,14 @@ module _ (n : ℕ) where
       → r ≡ frequencyRateOut a → frequency-rate-in r ≡ unless n (pos 0) v
   frequency-rate-told v a p e = ap frequency-rate-in e ∙ frequency-rate-case v a p
 
-  abbrev pub time-in : TimeOut → Answer ℕ
+  abbrev pub time-in : TimeOut → Answer ℤ
   time-in r = told (r .refusal) (r .microseconds)
 
-  time-case : (v : ℕ) (a : TimeAnswer) → shownTime a ≡ unless n 0 v → time-in (timeOut a) ≡ unless n 0 v
+  time-case : (v : ℤ) (a : TimeAnswer) → shownTime a ≡ unless n (pos 0) v → time-in (timeOut a) ≡ unless n (pos 0) v
   time-case v (TimeAnswer.Microseconds t) p = p
-  time-case v (TimeAnswer.Refused m) p = told-refused n 0 v p
+  time-case v (TimeAnswer.Refused m) p = told-refused n (pos 0) v p
 
-  pub time-told : (v : ℕ) (a : TimeAnswer) {r : TimeOut} → shownTime a ≡ unless n 0 v → r ≡ timeOut a → time-in r ≡ unless n 0 v
+  pub time-told : (v : ℤ) (a : TimeAnswer) {r : TimeOut} → shownTime a ≡ unless n (pos 0) v → r ≡ timeOut a → time-in r ≡ unless n (pos 0) v
   time-told v a p e = ap time-in e ∙ time-case v a p
 
   abbrev pub open-in : OpenOut → Answer Opening

@@ -34,7 +34,7 @@ frequencyRateOut (FrequencyRateAnswer.Refused n) = record { refusal = n; units =
 
 abbrev pub timeOut : TimeAnswer → TimeOut
 timeOut (TimeAnswer.Microseconds t) = record { refusal = 0; microseconds = t }
-timeOut (TimeAnswer.Refused n) = record { refusal = n; microseconds = 0 }
+timeOut (TimeAnswer.Refused n) = record { refusal = n; microseconds = pos 0 }
 
 abbrev pub zeroFloat : Float
 zeroFloat = fin false 0 (pos 0)

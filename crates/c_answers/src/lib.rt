@@ -28,7 +28,7 @@ pub struct FrequencyRateOut {
 #[repr(C)]
 pub struct TimeOut {
     pub refusal: u8,
-    pub microseconds: u64,
+    pub microseconds: i64,
 }
 
 #[repr(C)]

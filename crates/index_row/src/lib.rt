@@ -2,12 +2,12 @@
 // for that of accepted records.
 ghost use mathlib.Core.Path.{_≡_};
 ghost use mathlib.Core.List.{_∷_, _++_};
-ghost use Prim.Native.Nat.{_*_, _≤_, _<_};
+ghost use Prim.Native.Nat.{_*_, _/_, _≤_, _<_};
 ghost use lib.Dec.{eqb};
 ghost use lib.ListN.{length};
 ghost use Rattle.sample_rates.specs.Rates.{mostSamples};
 ghost use Rattle.totals.specs.Running.{totalAt};
-ghost use Rattle.index_model.specs.Records.{inEdition, secondIn};
+ghost use Rattle.index_model.specs.Records.{secondMs, inEdition, secondIn};
 ghost use Rattle.index_model.specs.Cells.{cellLimit, channelCells, stretchCells, flag, rowOf};
 ghost use Rattle.index_row.specs.Row.{cellList, AllBounded};
 use index_model::GREATEST_OFFSET;
@@ -34,11 +34,18 @@ fn flag_cell(bit: u64) -> u32
     0
 }
 
+// The second of a tag: that of the tag itself, whichever sample it times.
+fn second_at(tag: u64) -> u64
+    ensures { λ r. ⌜ r ≡ tag / secondMs ⌝ }
+{
+    tag / SECOND_MS
+}
+
 // The second of a record; the tag of any bytes is less than a cell can hold.
 pub fn second_of(bytes: &[u8]) -> u64
     ensures { λ r. ⌜ (r ≡ secondIn (now (bytes .entry))) × (r < cellLimit) ⌝ }
 {
-    fields::read_field(bytes, header::TIME_TAG) / SECOND_MS
+    second_at(fields::read_field(bytes, header::TIME_TAG))
 }
 
 // The cells of a channel (1 to 4) that has so many samples.

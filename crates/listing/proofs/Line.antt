@@ -1,5 +1,5 @@
 -- The line of an accepted record has at most 51 bytes. Assumes nothing.
-use Prim.Native.Nat.{ℕ, zero, suc, _*_, _^_, _≤_, _<_}
+use Prim.Native.Nat.{ℕ, zero, suc, _+_, _*_, _^_, _≤_, _<_}
 use mathlib.Core.Path.{_≡_, refl}
 use mathlib.Core.Bool.{Bool, true, false, cond}
 use mathlib.Core.List.{List}
@@ -13,14 +13,18 @@ use Rattle.fields.specs.Table.{readAll, placeOf}
 use Rattle.fields.proofs.OneField.{value-lt}
 use Rattle.fields.proofs.Tables.{fit-at}
 use Rattle.header.specs.Edition.{editionOf, fieldsOf}
-use Rattle.header.specs.Rows.{clockOrigin, recordNumber, readback, frequencyRateDigits, frequencyRatePower, frequencyRateSign}
+use Rattle.header.specs.Rows.{clockOrigin, recordNumber, timeTag, readback, frequencyRateDigits, frequencyRatePower, frequencyRateSign}
 use Rattle.frequency_rate.specs.FrequencyRate.{frequencyRateUnits, frequencyRateOf}
 use Rattle.record.specs.Record.{recordRefusal}
 use Rattle.record.proofs.Accepted.{record-facts, values-small}
 use Rattle.frequency_rate.proofs.Signs.{power-small}
 use Rattle.text.proofs.Line.{line-within}
-use Rattle.times.specs.SampleTime.{sampleTime}
-use Rattle.times.proofs.Timed.{not-rounded}
+use Rattle.numbers.specs.Number.{signedDecimal}
+use Rattle.numbers.proofs.Signs.{signed-length}
+use Rattle.sample_rates.specs.Rates.{rateHz, mostSamples, secondUs}
+use Rattle.record.specs.Stretch.{recordRate}
+use Rattle.times.specs.SampleTime.{msUs, taggedSample, sampleTime}
+use Rattle.times.proofs.Timed.{time-near}
 use Rattle.listing.specs.Listing.{columnsOf, recordText, longestLine}
 
 size-of : (n : ℕ) → natAbs (negℤ (pos n)) ≡ n
@@ -48,8 +52,13 @@ module _ (b : List ℕ) (e : recordRefusal 1985 b ≡ 0) where
       ltb→lt _ _ (fit-at decimalFits (fieldsOf 1985) (readAll (fieldsOf 1985) b) (placeOf (fieldsOf 1985) frequencyRateDigits)
       (values-small 1985 b e .0) (lit< tt))
 
-  time-small : sampleTime 1985 b 0 < 10 ^ 11
-  time-small = let tag = record-facts 1985 b e .tag in omega (arith, not-rounded 1985 b 0)
+  -- a time of sample 0 lies less than 1,000 seconds behind the tag of a day, or at most two before it
+  time-small : length (signedDecimal (sampleTime 1985 b 0)) ≤ 11
+  unfolding sampleTime
+  time-small =
+      let tag = valueOf timeTag b in
+      signed-length 10 (taggedSample * secondUs) (msUs * tag + mostSamples * secondUs) (sampleTime 1985 b 0) (lit< tt) (lit< tt)
+      (omega (arith, record-facts 1985 b e .tag)) (time-near tag (rateHz (recordRate 1985 b)) 0 (lit< tt))
 
   rate-small : natAbs (frequencyRateOf b) < 10 ^ 7 * 10 ^ 5
   unfolding frequencyRateOf
@@ -63,7 +72,7 @@ module _ (b : List ℕ) (e : recordRefusal 1985 b ≡ 0) where
   pub line-small : length (recordText b) ≤ longestLine
   unfolding recordText
   line-small =
-      line-within (columnsOf b) 5 11 1 8 7 (lit< tt) (lit< tt) (lit< tt) (lit< tt) (lit< tt)
+      line-within (columnsOf b) 5 11 1 8 7 (lit< tt) (lit< tt) (lit< tt) (lit< tt)
       (record {
         number = omega (arith, value-lt recordNumber b refl refl);
         first = time-small;

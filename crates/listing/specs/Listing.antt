@@ -66,8 +66,8 @@ shortestRecord = 2 * 390
 abbrev pub mostRecords : ℕ
 mostRecords = longestInput / shortestRecord
 
--- the longest line of a record: a number of 5 digits, a time of 11 (86,399,999,000), the clock origin, 8 digits before the
--- point of the frequency and 7 before that of the rate: 51 bytes
+-- the longest line of a record: a number of 5 digits, a time of 11 (86,399,998,960; below zero it has fewer, minus and all), the
+-- clock origin, 8 digits before the point of the frequency and 7 before that of the rate: 51 bytes
 abbrev pub longestLine : ℕ
 longestLine = lineLength 5 11 1 8 7
 

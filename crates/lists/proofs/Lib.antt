@@ -2,3 +2,4 @@ pub mod Order
 pub mod Truth
 pub mod Fill
 pub mod Parts
+pub mod Range

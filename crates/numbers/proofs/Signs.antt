@@ -1,17 +1,20 @@
 -- Numbers below zero and others: how far they are from zero, and their text. Assumes nothing.
 use mathlib.Core.Path.{_≡_, refl, sym, ap, _∙_}
 use mathlib.Core.Bool.{Bool, true, false, cond, true≢false}
-use mathlib.Core.List.{_++_}
-use Prim.Native.Nat.{ℕ, suc, _+_, _-_, _≤_}
+use mathlib.Core.List.{List, [], _++_}
+use Prim.Native.Nat.{ℕ, suc, _+_, _-_, _^_, _≤_, _<_}
 use native.Mathlib.Omega.{arith}
 use lib.Dec.{T}
 use lib.IntN.{ℤ, pos, negsuc, natAbs, _-ℤ_}
+use lib.ListN.{length}
 use lib.Signed.{mag, ltZ, nonNeg}
 use mir.Facts.{toZ-ofZ}
 use mir.Syntax.{w64}
 use mir.Val.{SFits, toZ, ofZ}
 use borrow.Author.Tests.{ltb-true, le-ltb}
-use Rattle.numbers.specs.Number.{ascii, fixed, signedFixed}
+use Rattle.lists.proofs.Range.{Between}
+use Rattle.numbers.specs.Number.{ascii, minus, signedDecimal}
+use Rattle.numbers.proofs.Decimal.{decimal-length}
 
 -- a signed number comes to a callee, and to a test, as it is read of its bits
 abbrev readOf : ℤ → ℤ
@@ -19,9 +22,6 @@ readOf z = toZ w64 (ofZ w64 z)
 
 pub read-test : {z : ℤ} {t : Bool} → SFits w64 z → ltZ (readOf z) (pos 0) ≡ t → ltZ z (pos 0) ≡ t
 read-test f e = sym (ap (λ (y : ℤ). ltZ y (pos 0)) (toZ-ofZ f)) ∙ e
-
-pub signed-read : (k : ℕ) {z : ℤ} → SFits w64 z → signedFixed k (readOf z) ≡ signedFixed k z
-signed-read k f = ap (signedFixed k) (toZ-ofZ f)
 
 -- -1 - z fits where -z does not, at the least number
 pub below-zero : (z : ℤ) → ltZ z (pos 0) ≡ true → (negsuc 0 -ℤ z ≡ pos (mag z)) × (mag z + 1 ≡ natAbs z)
@@ -40,21 +40,35 @@ pub natAbs-mag : (z : ℤ) → natAbs z ≤ mag z + 1
 natAbs-mag (pos a) = omega arith
 natAbs-mag (negsuc a) = omega arith
 
-minus-text : (k : ℕ) (z : ℤ) {n : ℕ} → n ≡ natAbs z → ltZ z (pos 0) ≡ true → ascii "-" ++ fixed k n ≡ signedFixed k z
-unfolding signedFixed
-minus-text k (pos a) e t = absurd (omega (arith, ltb-true a 0 t))
-minus-text k (negsuc a) e t = ap (λ (m : ℕ). ascii "-" ++ fixed k m) e
+-- what stands before the digits, by the code's test
+pub minus-below : {z : ℤ} → SFits w64 z → ltZ (readOf z) (pos 0) ≡ true → ascii "-" ≡ minus z
+minus-below {z} f t = by-sign z (read-test f t)
+  where
+    by-sign : (y : ℤ) → ltZ y (pos 0) ≡ true → ascii "-" ≡ minus y
+    by-sign (pos a) e = absurd (omega (arith, ltb-true a 0 e))
+    by-sign (negsuc a) e = refl
 
-plain-text : (k : ℕ) (z : ℤ) {n : ℕ} → n ≡ natAbs z → ltZ z (pos 0) ≡ false → fixed k n ≡ signedFixed k z
-unfolding signedFixed
-plain-text k (pos a) e t = ap (fixed k) e
-plain-text k (negsuc a) e t = absurd (true≢false t)
+pub minus-none : {z : ℤ} → SFits w64 z → ltZ (readOf z) (pos 0) ≡ false → [] ≡ minus z
+minus-none {z} f t = by-sign z (read-test f t)
+  where
+    by-sign : (y : ℤ) → ltZ y (pos 0) ≡ false → [] ≡ minus y
+    by-sign (pos a) e = refl
+    by-sign (negsuc a) e = absurd (true≢false e)
 
--- the text by the code's test and magnitude
-pub signed-below : (k : ℕ) {z : ℤ} {n : ℕ} → SFits w64 z → n ≡ natAbs (readOf z) → ltZ (readOf z) (pos 0) ≡ true
-    → ascii "-" ++ fixed k n ≡ signedFixed k z
-signed-below k {z} f e t = minus-text k (readOf z) e t ∙ signed-read k f
+-- a minus and then digits, of the number as it is read of its bits
+pub signed-text : (digits : ℕ → List ℕ) {z : ℤ} {n : ℕ} → SFits w64 z → n ≡ natAbs (readOf z)
+    → minus (readOf z) ++ digits n ≡ minus z ++ digits (natAbs z)
+signed-text digits {z} f e = (λ i. minus (toZ-ofZ f i) ++ digits ((e ∙ ap natAbs (toZ-ofZ f)) i))
 
-pub signed-not-below : (k : ℕ) {z : ℤ} {n : ℕ} → SFits w64 z → n ≡ natAbs (readOf z) → ltZ (readOf z) (pos 0) ≡ false
-    → fixed k n ≡ signedFixed k z
-signed-not-below k {z} f e t = plain-text k (readOf z) e t ∙ signed-read k f
+-- ## lengths
+
+pub minus-length : (z : ℤ) → length (minus z) ≤ 1
+minus-length (pos a) = omega arith
+minus-length (negsuc a) = omega arith
+
+-- a minus takes the place of a digit
+pub signed-length : (d low high : ℕ) (z : ℤ) → 0 < d → low < 10 ^ d → high < 10 ^ (d + 1) → Between low high z
+    → length (signedDecimal z) ≤ d + 1
+unfolding signedDecimal
+signed-length d low high (pos n) p l h b = decimal-length (d + 1) n (omega arith) (omega (arith, b))
+signed-length d low high (negsuc n) p l h b = omega (arith, decimal-length d (suc n) p (omega (arith, b)))

@@ -48,6 +48,10 @@ behind-both size at n m =
 pub byte-past : (l : List ℕ) (i x : ℕ) → length l ≤ i → Written l i (x ∷ []) i l
 byte-past l i x h = record { place = omega arith; buffer = sym (set-out l i x h) }
 
+-- a text of no byte
+pub nothing : (l : List ℕ) (i : ℕ) → Written l i [] i l
+nothing l i = record { place = omega arith; buffer = refl }
+
 -- where there is room, the next place is behind the whole text
 pub next-place : {l m : List ℕ} {a b : ℕ} {s : List ℕ} → Room l a s → Written l a s b m → b ≡ a + length s
 next-place {l} {m} {a} {b} {s} r w = omega (arith, r .enough, w .place)

@@ -6,7 +6,7 @@ use Prim.Native.Nat.{ℕ, zero, suc, _+_, _-_, _*_, _/_, _%_, _^_}
 use Prim.Native.Char.{code}
 use Prim.Native.String.{String, [] as [], _∷_ as _∷_}
 use lib.Dec.{ltb}
-use lib.IntN.{ℤ, pos, negsuc}
+use lib.IntN.{ℤ, pos, negsuc, natAbs}
 
 -- the characters of a text
 abbrev pub ascii : String → List ℕ
@@ -39,9 +39,16 @@ unfoldable pub fixed : ℕ → ℕ → List ℕ
 fixed k n = decimalText (n / 10 ^ k) ++ ascii "." ++ places k n
 
 -- "minus only below zero"; `negsuc n` is -(n + 1)
+abbrev pub minus : ℤ → List ℕ
+minus (pos n) = []
+minus (negsuc n) = ascii "-"
+
+-- a whole number that may be below zero, and one of units of the k-th decimal place
+unfoldable pub signedDecimal : ℤ → List ℕ
+signedDecimal z = minus z ++ decimalText (natAbs z)
+
 unfoldable pub signedFixed : ℕ → ℤ → List ℕ
-signedFixed k (pos n) = fixed k n
-signedFixed k (negsuc n) = ascii "-" ++ fixed k (suc n)
+signedFixed k z = minus z ++ fixed k (natAbs z)
 
 -- the number that digits stand for, behind digits that stand for `before`
 unfoldable pub valueAfter : ℕ → List ℕ → ℕ

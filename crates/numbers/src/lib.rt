@@ -4,7 +4,7 @@ ghost use mathlib.Core.Path.{_≡_};
 ghost use mathlib.Core.List.{[], _∷_};
 ghost use lib.IntN.{pos, natAbs};
 ghost use lib.Signed.{ltZ};
-ghost use Rattle.numbers.specs.Number.{digit, decimalText, fixed, signedFixed};
+ghost use Rattle.numbers.specs.Number.{digit, decimalText, fixed, minus, signedDecimal, signedFixed};
 ghost use Rattle.numbers.specs.Writing.{Written};
 
 pub fn write_byte(out: &mut [u8], at: usize, byte: u8) -> usize
@@ -67,16 +67,29 @@ fn below_zero(z: i64) -> bool
     z < 0
 }
 
+// Writes a minus below zero, else nothing.
+fn write_minus(out: &mut [u8], at: usize, value: i64) -> usize
+    ensures { λ r. ⌜ Written (now (out .entry)) at (minus value) r (now (out .exit)) ⌝ }
+{
+    if below_zero(value) {
+        write_byte(out, at, b'-')
+    } else {
+        at
+    }
+}
+
+pub fn write_signed_decimal(out: &mut [u8], at: usize, value: i64) -> usize
+    ensures { λ r. ⌜ Written (now (out .entry)) at (signedDecimal value) r (now (out .exit)) ⌝ }
+{
+    let digits_at = write_minus(out, at, value);
+    write_decimal(out, digits_at, magnitude(value))
+}
+
 pub fn write_signed_fixed(out: &mut [u8], at: usize, places: usize, value: i64) -> usize
     ensures { λ r. ⌜ Written (now (out .entry)) at (signedFixed places value) r (now (out .exit)) ⌝ }
 {
-    let n = magnitude(value);
-    if below_zero(value) {
-        let digits = write_byte(out, at, b'-');
-        write_fixed(out, digits, places, n)
-    } else {
-        write_fixed(out, at, places, n)
-    }
+    let digits_at = write_minus(out, at, value);
+    write_fixed(out, digits_at, places, magnitude(value))
 }
 
 pub fn write_text(out: &mut [u8], at: usize, text: &[u8]) -> usize

@@ -2,15 +2,18 @@
 use mathlib.Core.List.{List, _++_}
 use Prim.Native.Nat.{ℕ, _+_}
 use lib.IntN.{ℤ}
-use Rattle.numbers.specs.Number.{ascii, decimalText, fixed, signedFixed}
+use Rattle.numbers.specs.Number.{ascii, decimalText, fixed, signedDecimal, signedFixed}
 use Rattle.text.specs.declared.Columns.{Columns}
 
 unfoldable pub headerLine : List ℕ
 headerLine = ascii "record,first_us,origin,poca_hz,rate_hz_s\n"
 
--- a whole number, and the comma behind it
+-- a whole number, and the comma behind it; and one that may be below zero
 abbrev pub column : ℕ → List ℕ
 column n = decimalText n ++ ascii ","
+
+abbrev pub signedColumn : ℤ → List ℕ
+signedColumn z = signedDecimal z ++ ascii ","
 
 -- hertz with six places, of microhertz; hertz a second with five, of units of 0.00001, and the line feed
 abbrev pub frequencyColumn : ℕ → List ℕ
@@ -23,7 +26,7 @@ rateColumn z = signedFixed 5 z ++ ascii "\n"
 unfoldable pub recordLine : Columns → List ℕ
 recordLine c =
     column (c .number)
-    ++ (column (c .«first_us»)
+    ++ (signedColumn (c .«first_us»)
     ++ (column (c .origin)
     ++ (frequencyColumn (c .«frequency_uhz»)
     ++ rateColumn (c .«frequency_rate_units»))))
@@ -31,7 +34,7 @@ recordLine c =
 unfoldable pub refusedLine : ℕ → List ℕ
 refusedLine number = ascii "refused," ++ (decimalText number ++ ascii "\n")
 
--- the length of a record's line whose number, time and origin have n, t and o digits, whose frequency has f before the point and
--- whose rate has a minus and r before the point; behind each column stands a comma or the line feed
+-- the length of a record's line whose number and origin have n and o digits, whose time has t characters, whose frequency has f
+-- digits before the point and whose rate has a minus and r before the point; behind each column stands a comma or the line feed
 abbrev pub lineLength : ℕ → ℕ → ℕ → ℕ → ℕ → ℕ
 lineLength n t o f r = (n + 1) + (t + 1) + (o + 1) + (f + 1 + 6 + 1) + (1 + r + 1 + 5 + 1)

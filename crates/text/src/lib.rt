@@ -4,7 +4,7 @@ ghost use mathlib.Core.Path.{_≡_};
 ghost use Prim.Native.Nat.{_+_};
 ghost use lib.Dec.{leb};
 ghost use Rattle.numbers.specs.Writing.{Written};
-ghost use Rattle.text.specs.Text.{column, frequencyColumn, rateColumn, headerLine, recordLine, refusedLine};
+ghost use Rattle.text.specs.Text.{column, signedColumn, frequencyColumn, rateColumn, headerLine, recordLine, refusedLine};
 ghost use Rattle.text.specs.Placed.{shownText, answerAt, bufferAt};
 
 // Decimal places: six of hertz, five of a rate.
@@ -18,7 +18,7 @@ const LONGEST_LINE: usize = 107;
 // The columns of a record's line.
 pub struct Columns {
     pub number: u64,
-    pub first_us: u64,
+    pub first_us: i64,
     pub origin: u64,
     pub frequency_uhz: u64,
     pub frequency_rate_units: i64,
@@ -40,6 +40,14 @@ fn write_column(out: &mut [u8], at: usize, n: u64) -> usize
     numbers::write_byte(out, comma_at, b',')
 }
 
+// One that may be below zero.
+fn write_signed_column(out: &mut [u8], at: usize, z: i64) -> usize
+    ensures { λ r. ⌜ Written (now (out .entry)) at (signedColumn z) r (now (out .exit)) ⌝ }
+{
+    let comma_at = numbers::write_signed_decimal(out, at, z);
+    numbers::write_byte(out, comma_at, b',')
+}
+
 fn write_frequency(out: &mut [u8], at: usize, frequency_uhz: u64) -> usize
     ensures { λ r. ⌜ Written (now (out .entry)) at (frequencyColumn «frequency_uhz») r (now (out .exit)) ⌝ }
 {
@@ -58,7 +66,7 @@ fn write_record_line(out: &mut [u8], at: usize, columns: Columns) -> usize
     ensures { λ r. ⌜ Written (now (out .entry)) at (recordLine columns) r (now (out .exit)) ⌝ }
 {
     let first_at = write_column(out, at, columns.number);
-    let origin_at = write_column(out, first_at, columns.first_us);
+    let origin_at = write_signed_column(out, first_at, columns.first_us);
     let frequency_at = write_column(out, origin_at, columns.origin);
     let rate_at = write_frequency(out, frequency_at, columns.frequency_uhz);
     write_rate(out, rate_at, columns.frequency_rate_units)

@@ -1,2 +1,4 @@
+pub mod Rounding
+pub mod Signs
 pub mod Timed
 pub mod Counts

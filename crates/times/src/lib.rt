@@ -5,7 +5,7 @@ ghost use Prim.Native.Nat.{_%_, _^_, _<_};
 ghost use Rattle.header.specs.Edition.{fractionBits};
 ghost use Rattle.sample_rates.specs.Rates.{mostSamples};
 ghost use Rattle.phase.specs.Phase.{InCycles};
-ghost use Rattle.times.specs.SampleTime.{timeOf, sampleTime, timeAnswer, shownTime};
+ghost use Rattle.times.specs.SampleTime.{fromTag, timeOf, sampleTime, timeAnswer, shownTime};
 ghost use Rattle.times.specs.Phases.{phaseAnswer, shownPhases, Exactly};
 use header::EDITION_1992;
 use sample_rates::SECOND_US;
@@ -13,9 +13,12 @@ use sample_rates::SECOND_US;
 // Microseconds in a millisecond.
 const MS_US: u64 = 1000;
 
-// The microseconds of the day, or the refusal.
+// The sample that the tag times, counted from 0: the third of each channel.
+const TAGGED_SAMPLE: u64 = 2;
+
+// The microseconds from 0 h of the record's day, below zero on the day before; or the refusal.
 pub enum TimeAnswer {
-    Microseconds(u64),
+    Microseconds(i64),
     Refused(u8),
 }
 
@@ -25,20 +28,32 @@ pub enum PhaseAnswer {
     Refused(u8),
 }
 
-// The time of sample k by the record's tag and its samples a second, 0 where the header names no rate. It is rounded down once,
-// not with each sample.
-fn time_of(tag: u64, hz: u64, k: u64) -> u64
+// The microseconds from the tag to sample k, 0 where the header names no rate. They are rounded down once, not with each sample;
+// before the tag that is away from zero.
+fn from_tag(hz: u64, k: u64) -> i64
+    requires { ⌜ k < mostSamples ⌝ }
+    ensures { λ r. ⌜ r ≡ fromTag hz k ⌝ }
+{
+    if hz == 0 {
+        return 0;
+    }
+    if k < TAGGED_SAMPLE {
+        let before = (TAGGED_SAMPLE - k) * SECOND_US;
+        return -1 - (((before - 1) / hz) as i64);
+    }
+    ((k - TAGGED_SAMPLE) * SECOND_US / hz) as i64
+}
+
+// The time of sample k by the record's tag and its samples a second.
+fn time_of(tag: u64, hz: u64, k: u64) -> i64
     requires { ⌜ (tag < 2 ^ 27) × (k < mostSamples) ⌝ }
     ensures { λ r. ⌜ r ≡ timeOf tag hz k ⌝ }
 {
-    if hz == 0 {
-        return MS_US * tag;
-    }
-    MS_US * tag + k * SECOND_US / hz
+    (MS_US * tag) as i64 + from_tag(hz, k)
 }
 
 // The time of the first sample, of any bytes.
-pub fn first_sample_time(edition: u64, bytes: &[u8]) -> u64
+pub fn first_sample_time(edition: u64, bytes: &[u8]) -> i64
     ensures { λ r. ⌜ r ≡ sampleTime edition (now (bytes .entry)) 0 ⌝ }
 {
     let rate = record::rate_of(edition, bytes);

@@ -13,7 +13,7 @@ use Rattle.frequency_rate.specs.FrequencyRate.{frequencyRateAnswer}
 use Rattle.channels.specs.Sample.{signedOf}
 use Rattle.totals.specs.declared.Total.{Total}
 use Rattle.totals.specs.Total.{totalOf}
-use Rattle.times.specs.SampleTime.{timeAnswer}
+use Rattle.times.specs.SampleTime.{fromTag, timeAnswer}
 use Rattle.worked_cases.specs.Bytes.{Word, _is_, bytesFrom}
 
 -- the record of the lister's case: 390 words, zero but for these (hex 8101, 0001, 0186, AC18, 0293, 2E00, 4200, 0012, 3452,
@@ -71,9 +71,6 @@ g against s = record { gives = g; says = s }
 abbrev pub shownℤ : Answer ℤ → List ℤ
 shownℤ a = pos (a .number) ∷ a .value ∷ []
 
-abbrev pub shownℕ : Answer ℕ → List ℤ
-shownℕ a = pos (a .number) ∷ pos (a .value) ∷ []
-
 -- the refusal number and the value of a field of the header
 abbrev pub shownField : ℕ → Field → List ℕ → List ℤ
 shownField n f b = pos (headerAnswer n b .number) ∷ pos (valueIn (fieldsOf n) (headerAnswer n b .value) f) ∷ []
@@ -104,8 +101,15 @@ cases =
     ∷ ((pos (recordRefusal 1985 (caseWith (7 is 1318 ∷ 8 is 23551 ∷ []))) ∷ []) against (pos 0 ∷ []))
     ∷ ((pos (recordRefusal 1985 (caseWith (7 is 1318 ∷ 8 is 23552 ∷ []))) ∷ []) against (pos 9 ∷ []))
     -- sample times at 50,000 samples a second with time tag 1: the first and the last sample
-    ∷ (shownℕ (timeAnswer 1985 fastRecord 0) against (pos 0 ∷ pos 1000 ∷ []))
-    ∷ (shownℕ (timeAnswer 1985 fastRecord 999) against (pos 0 ∷ pos 20980 ∷ []))
+    ∷ (shownℤ (timeAnswer 1985 fastRecord 0) against (pos 0 ∷ pos 960 ∷ []))
+    ∷ (shownℤ (timeAnswer 1985 fastRecord 999) against (pos 0 ∷ pos 20940 ∷ []))
+    -- at 200 samples a second with time tag 0, sample 0 on the day before, samples 2 and 3; and sample 0 of the lister's case
+    ∷ (shownℤ (timeAnswer 1985 (caseWith (7 is 0 ∷ 8 is 0 ∷ [])) 0) against (pos 0 ∷ negℤ (pos 10000) ∷ []))
+    ∷ (shownℤ (timeAnswer 1985 (caseWith (7 is 0 ∷ 8 is 0 ∷ [])) 2) against (pos 0 ∷ pos 0 ∷ []))
+    ∷ (shownℤ (timeAnswer 1985 (caseWith (7 is 0 ∷ 8 is 0 ∷ [])) 3) against (pos 0 ∷ pos 5000 ∷ []))
+    ∷ (shownℤ (timeAnswer 1985 (caseWith []) 0) against (pos 0 ∷ pos 43199990000 ∷ []))
+    -- rounded down where an interval is not whole: samples 0 and 3 at 300 a second, sample 1 at 7
+    ∷ ((fromTag 300 0 ∷ fromTag 300 3 ∷ fromTag 7 1 ∷ []) against (negℤ (pos 6667) ∷ pos 3333 ∷ negℤ (pos 142858) ∷ []))
     -- bytes 80, 7F and FF hex
     ∷ ((signedOf 128 ∷ signedOf 127 ∷ signedOf 255 ∷ []) against (negℤ (pos 128) ∷ pos 127 ∷ negℤ (pos 1) ∷ []))
     -- the total of samples 3 and -4
@@ -124,8 +128,10 @@ cases =
     ∷ (shownField 1992 frequencyOffset (in1992 (39 is 65535 ∷ 40 is 65535 ∷ 41 is 65535 ∷ [])) against (pos 0 ∷ pos 18446744073709551615 ∷ []))
     ∷ (shownField 1992 frequencyOffset (in1992 (39 is 32768 ∷ [])) against (pos 0 ∷ pos 18446603336221196288 ∷ []))
     -- sample times at 31,250 samples a second with time tag 1: the first and the last sample
-    ∷ (shownℕ (timeAnswer 1992 fast1992 0) against (pos 0 ∷ pos 1000 ∷ []))
-    ∷ (shownℕ (timeAnswer 1992 fast1992 624) against (pos 0 ∷ pos 20968 ∷ []))
+    ∷ (shownℤ (timeAnswer 1992 fast1992 0) against (pos 0 ∷ pos 936 ∷ []))
+    ∷ (shownℤ (timeAnswer 1992 fast1992 624) against (pos 0 ∷ pos 20904 ∷ []))
+    -- at 200 samples a second with time tag 0
+    ∷ (shownℤ (timeAnswer 1992 (in1992 []) 0) against (pos 0 ∷ negℤ (pos 10000) ∷ []))
     -- a record of each edition under the other, and under neither
     ∷ ((pos (recordRefusal 1992 (caseWith [])) ∷ pos (recordRefusal 1985 (in1992 [])) ∷ pos (recordRefusal 1986 (in1992 [])) ∷ [])
     against (pos 3 ∷ pos 3 ∷ pos 25 ∷ []))

@@ -8,11 +8,12 @@ use Rattle.listing.proofs.read_columns.Tie as tie
 returns : tie.Need-returns
 returns c =
     let o = c .before .before in
+    let first = toZ-ofZ (record { sfits = o .before .first-sample-time .ok }) ∙ o .before .first-sample-time .ensures in
     let rate = toZ-ofZ (record { sfits = c .frequency-rate-of .ok }) ∙ c .frequency-rate-of .ensures in
     (λ i.
     record {
       number = o .before .before .read-field .ensures i;
-      «first_us» = o .before .first-sample-time .ensures i;
+      «first_us» = first i;
       origin = o .read-field2 .ensures i;
       «frequency_uhz» = c .before .read-field3 .ensures i;
       «frequency_rate_units» = rate i;

@@ -1,19 +1,16 @@
 use mathlib.Core.Path.{_≡_, ap}
-use mathlib.Core.List.{List, _++_}
-use Prim.Native.Nat.{ℕ}
+use mir.Facts.{toZ-ofZ}
 use mir.Syntax.{w64}
 use mir.Val.{toZ, ofZ}
 use borrow.Author.Needs.{needs}
-use Rattle.numbers.specs.Number.{ascii}
 use Rattle.text.specs.Text.{rateColumn}
-use Rattle.numbers.proofs.Signs.{signed-read}
 use Rattle.numbers.proofs.Writing.{written-both}
 use Rattle.text.proofs.write_rate.Statement.{statement}
 use Rattle.text.proofs.write_rate.Tie as tie
 
 -- the rate comes to the callee as it is read of its bits
 same : (a : tie.Start) → rateColumn (toZ w64 (ofZ w64 (a .args .units))) ≡ rateColumn (a .args .units)
-same a = ap (λ (t : List ℕ). t ++ ascii "\n") (signed-read 5 (a .fits .units))
+same a = ap rateColumn (toZ-ofZ (a .fits .units))
 
 returns : tie.Need-returns
 returns c =

@@ -1,43 +1,29 @@
--- Five columns, one behind the other. Assumes nothing.
+-- Five columns, one behind the other. The two that may be below zero come to their writers as they are read of their bits.
+-- Assumes nothing.
 use mathlib.Core.Path.{_≡_, refl, ap}
 use mir.Facts.{toZ-ofZ}
-use mir.Syntax.{w64}
-use mir.Val.{toZ, ofZ}
 use borrow.Author.Needs.{needs}
-use Rattle.text.specs.Text.{rateColumn, recordLine}
+use Rattle.text.specs.Text.{signedColumn, rateColumn, recordLine}
 use Rattle.numbers.proofs.Writing.{written-both, written-as}
 use Rattle.text.proofs.write_record_line.Statement.{statement}
 use Rattle.text.proofs.write_record_line.Tie as tie
-
-abbrev entry : tie.After-write-column → tie.Start
-entry c = c .before .before .before
-
-abbrev first : tie.After-write-column2 → tie.After-write-column
-first c = c .before .before .before .before
-
-abbrev second : tie.After-write-column3 → tie.After-write-column2
-second c = c .before .before .before .before
-
-abbrev third : tie.After-write-frequency → tie.After-write-column3
-third c = c .before .before .before .before
-
--- the rate comes to the callee as it is read of its bits
-rate-read : (c : tie.After-struct-told) → let z = entry (first
-    (second (third (c .before .before .before .before)))) .args .columns .«frequency_rate_units» in toZ w64 (ofZ w64 z) ≡ z
-rate-read c = toZ-ofZ (record { sfits = c .struct-told .given .1 .1 .1 .1 .0 .1 })
 
 returns : tie.Need-returns
 unfolding recordLine
 returns c =
     let rate = c .before .before in
-    let four = rate .before .before .before .before .before in
-    let three = third four in
-    let two = second three in
-    written-both refl (first two .write-column .ensures)
-    (written-both refl (two .write-column2 .ensures)
-    (written-both refl (three .write-column3 .ensures)
-    (written-both refl (four .write-frequency .ensures)
-    (written-as (ap rateColumn (rate-read (rate .before))) (rate .write-rate .ensures)))))
+    let frequency = rate .before .before .before .before .before in
+    let origin = frequency .before .before .before .before in
+    let first = origin .before .before .before .before in
+    let number = first .before .before .before .before .before in
+    written-both refl (number .write-column .ensures)
+    (written-both refl
+    (written-as (ap signedColumn (toZ-ofZ (record { sfits = first .before .struct-told .given .1 .0 .1 })))
+    (first .write-signed-column .ensures))
+    (written-both refl (origin .write-column2 .ensures)
+    (written-both refl (frequency .write-frequency .ensures)
+    (written-as (ap rateColumn (toZ-ofZ (record { sfits = rate .before .struct-told2 .given .1 .1 .1 .1 .0 .1 })))
+    (rate .write-rate .ensures)))))
 
 pub write-record-line-spec : {M : Type 1} → statement M
 write-record-line-spec =

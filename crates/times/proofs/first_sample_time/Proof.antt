@@ -1,6 +1,7 @@
 use Prim.Native.Nat.{ℕ, _^_, _<_}
 use mathlib.Core.Path.{refl, sym, subst, _∙_}
 use native.Mathlib.Omega.{arith}
+use mir.Facts.{toZ-ofZ}
 use Rattle.fields.proofs.OneField.{value-lt}
 use Rattle.header.specs.Rows.{timeTag}
 use Rattle.sample_rates.specs.Rates.{rateHz}
@@ -19,7 +20,8 @@ returns : tie.Need-returns
 unfolding sampleTime
 returns c =
     let t = c .before in
-    c .time-of .ensures ∙ (λ i. timeOf (t .read-field .ensures i) (rateHz (t .before .rate-of .ensures i)) 0)
+    toZ-ofZ (record { sfits = c .time-of .ok }) ∙ c .time-of .ensures
+    ∙ (λ i. timeOf (t .read-field .ensures i) (rateHz (t .before .rate-of .ensures i)) 0)
 
 pub first-sample-time-spec : {M : Type 1} → statement M
 first-sample-time-spec =

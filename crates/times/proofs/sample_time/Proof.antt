@@ -4,6 +4,8 @@ use mathlib.Core.Bool.{not}
 use mathlib.Core.List.{[], _∷_}
 use denote.Ref.{now}
 use lib.Dec.{ltb}
+use lib.IntN.{ℤ, pos}
+use mir.Facts.{toZ-ofZ}
 use Rattle.answers.specs.Answer.{accepted, refused}
 use Rattle.answers.specs.Refusal.{_when_, first, _then_}
 use Rattle.answers.proofs.Refusals.{unless-none, unless-some}
@@ -36,7 +38,7 @@ returns : tie.Need-returns
 unfolding timeAnswer
 returns c =
     let e = refusal-is (c .before) in
-    ap (λ (n : ℕ). refused 0 n) e ∙ unless-some _ 0 _ (λ z. c .if1 .taken (e ∙ z))
+    ap (λ (n : ℕ). refused (pos 0) n) e ∙ unless-some _ (pos 0) _ (λ z. c .if1 .taken (e ∙ z))
 
 time-of-requires : tie.Need-time-of-requires
 time-of-requires c κs =
@@ -51,9 +53,9 @@ returns-2 c =
     let t = c .before in
     let z = t .before in
     let line = z .before .before .before .before .before in
-    ap (λ (x : ℕ). accepted x) (c .time-of .ensures
+    ap (λ (z : ℤ). accepted z) (toZ-ofZ (record { sfits = c .time-of .ok }) ∙ c .time-of .ensures
     ∙ (λ i. timeOf (t .read-field .ensures i) (rateHz (line .rate-of .ensures i)) (line .before .before .args .k)))
-    ∙ unless-none _ 0 _ (sym (refusal-is (z .before)) ∙ z .if1 .left)
+    ∙ unless-none _ (pos 0) _ (sym (refusal-is (z .before)) ∙ z .if1 .left)
 
 pub sample-time-spec : {M : Type 1} → statement M
 sample-time-spec =

@@ -1,30 +1,43 @@
-use Prim.Native.Nat.{_+_, _*_, _/_}
-use mathlib.Core.Path.{ap, sym, _∙_}
-use mathlib.Core.Bool.{Bool, cond}
-use native.Mathlib.Nat.{add-zero, div-le-self}
+use Prim.Native.Nat.{ℕ, _*_, _^_, _<_}
+use mathlib.Core.Path.{_≡_, sym, subst, _∙_}
 use native.Mathlib.Omega.{arith}
-use borrow.Author.Tests.{eq-eqb, ne-eqb}
-use Rattle.sample_rates.specs.Rates.{secondUs}
-use Rattle.times.specs.SampleTime.{msUs}
+use lib.IntN.{ℤ, pos, _+ℤ_}
+use mir.Facts.{toZ-ofZ}
+use mir.Syntax.{w64}
+use mir.Val.{SFits, toZ, ofZ}
 use borrow.Author.Needs.{needs}
+use Rattle.times.specs.SampleTime.{msUs, timeOf}
+use Rattle.times.proofs.Signs.{natural}
+use Rattle.times.proofs.Timed.{time-fits}
 use Rattle.times.proofs.time_of.Statement.{statement}
 use Rattle.times.proofs.time_of.Tie as tie
 
-returns : tie.Need-returns
-returns c =
-    let a = c .before .args in
-    sym (ap (λ (t : Bool). msUs * a .tag + cond t 0 (a .k * secondUs / a .hz)) (eq-eqb (a .hz) 0 (c .if1 .taken))
-    ∙ add-zero (msUs * a .tag))
+tag-fits : (a : tie.Start) → msUs * a .args .tag < 2 ^ 63
+tag-fits a = omega (arith, a .pre .0)
 
-add-result : tie.Need-add-result
-add-result c = let a = c .before .args in omega (arith, div-le-self (a .k * secondUs) (a .hz))
+module _ (c : tie.After-from-tag) where
+  abbrev a : tie.Start
+  a = c .before
 
-returns-2 : tie.Need-returns-2
-returns-2 c =
-    let a = c .before .args in
-    sym (ap (λ (t : Bool). msUs * a .tag + cond t 0 (a .k * secondUs / a .hz)) (ne-eqb (a .hz) 0 (c .if1 .left)))
+  abbrev told : ℤ
+  told = toZ w64 (msUs * a .args .tag) +ℤ toZ w64 (ofZ w64 (c .from-tag .result))
+
+  sum : told ≡ timeOf (a .args .tag) (a .args .hz) (a .args .k)
+  sum =
+      let from = toZ-ofZ (record { sfits = c .from-tag .ok }) ∙ c .from-tag .ensures in
+      (λ i. natural (msUs * a .args .tag) (tag-fits a) i +ℤ from i)
+
+  fitting : SFits w64 told
+  fitting =
+      subst (SFits w64) (sym sum)
+      (record { sfits = time-fits (a .args .tag) (a .args .hz) (a .args .k) (a .pre .0) (a .pre .1) })
 
 pub time-of-spec : {M : Type 1} → statement M
 time-of-spec =
     tie.close
-    (tie.spec (λ c. search needs) returns (λ c. search needs) (λ c. search needs) (λ c. search needs) add-result returns-2)
+    (tie.spec
+    (λ c. search needs)
+    (λ c. record { sfits = tag-fits c })
+    (λ c κs. search needs)
+    fitting
+    (λ c. toZ-ofZ (fitting c) ∙ sum c))

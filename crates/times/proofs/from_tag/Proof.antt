@@ -1,0 +1,73 @@
+use Prim.Native.Nat.{ℕ, _*_, _-_, _/_, _^_, _<_}
+use mathlib.Core.Path.{sym, _∙_}
+use native.Mathlib.Nat.{div-le-self}
+use native.Mathlib.Omega.{arith}
+use borrow.Author.Needs.{needs}
+use Rattle.sample_rates.specs.Rates.{secondUs}
+use Rattle.times.specs.SampleTime.{taggedSample}
+use Rattle.times.proofs.Signs.{natural, below-fits, below-read}
+use Rattle.times.proofs.Timed.{no-rate, before-tag, after-tag}
+use Rattle.times.proofs.from_tag.Statement.{statement}
+use Rattle.times.proofs.from_tag.Tie as tie
+
+returns : tie.Need-returns
+returns c = let a = c .before .args in sym (no-rate (a .hz) (a .k) (c .if1 .taken))
+
+-- before the tag
+module _ (c : tie.Then2) where
+  abbrev hz : ℕ
+  hz = c .before .before .args .hz
+
+  abbrev k : ℕ
+  k = c .before .before .args .k
+
+  abbrev less-one : ℕ
+  less-one = ((taggedSample - k) * secondUs - 1) / hz
+
+  small : less-one < 2 ^ 63
+  small = omega (arith, div-le-self ((taggedSample - k) * secondUs - 1) hz)
+
+cast-result : tie.Need-cast-result
+cast-result c = record { sfits = small c }
+
+sub-result-2 : tie.Need-sub-result-2
+sub-result-2 c = below-fits (less-one c) (small c)
+
+returns-2 : tie.Need-returns-2
+returns-2 c = below-read (less-one c) (small c) ∙ sym (before-tag (hz c) (k c) (c .before .if1 .left) (c .if2 .taken))
+
+-- from the tag on
+module _ (c : tie.Else2) where
+  abbrev rate : ℕ
+  rate = c .before .before .args .hz
+
+  abbrev behind : ℕ
+  behind = c .before .before .args .k - taggedSample
+
+  few : behind * secondUs / rate < 2 ^ 63
+  few = omega (arith, div-le-self (behind * secondUs) rate, c .before .before .pre)
+
+cast-result-2 : tie.Need-cast-result-2
+cast-result-2 c = record { sfits = few c }
+
+returns-3 : tie.Need-returns-3
+returns-3 c =
+    let a = c .before .before .args in
+    natural _ (few c) ∙ sym (after-tag (a .hz) (a .k) (c .before .if1 .left) (omega (arith, c .if2 .left)))
+
+pub from-tag-spec : {M : Type 1} → statement M
+from-tag-spec =
+    tie.close
+    (tie.spec
+    returns
+    (λ c. search needs)
+    (λ c. search needs)
+    (λ c. search needs)
+    (λ c. search needs)
+    cast-result
+    sub-result-2
+    returns-2
+    (λ c. search needs)
+    (λ c. search needs)
+    cast-result-2
+    returns-3)
