@@ -27,12 +27,6 @@ module _ (c : tie.Then2) where
   small : less-one < 2 ^ 63
   small = omega (arith, div-le-self ((taggedSample - k) * secondUs - 1) hz)
 
-cast-result : tie.Need-cast-result
-cast-result c = record { sfits = small c }
-
-sub-result-2 : tie.Need-sub-result-2
-sub-result-2 c = below-fits (less-one c) (small c)
-
 returns-2 : tie.Need-returns-2
 returns-2 c = below-read (less-one c) (small c) ∙ sym (before-tag (hz c) (k c) (c .before .if1 .left) (c .if2 .taken))
 
@@ -47,13 +41,21 @@ module _ (c : tie.Else2) where
   few : behind * secondUs / rate < 2 ^ 63
   few = omega (arith, div-le-self (behind * secondUs) rate, c .before .before .pre)
 
-cast-result-2 : tie.Need-cast-result-2
-cast-result-2 c = record { sfits = few c }
-
 returns-3 : tie.Need-returns-3
 returns-3 c =
     let a = c .before .before .args in
     natural _ (few c) ∙ sym (after-tag (a .hz) (a .k) (c .before .if1 .left) (omega (arith, c .if2 .left)))
+
+-- ## the results fit
+
+cast-result : tie.Need-cast-result
+cast-result c = record { sfits = small c }
+
+sub-result-2 : tie.Need-sub-result-2
+sub-result-2 c = below-fits (less-one c) (small c)
+
+cast-result-2 : tie.Need-cast-result-2
+cast-result-2 c = record { sfits = few c }
 
 pub from-tag-spec : {M : Type 1} → statement M
 from-tag-spec =
