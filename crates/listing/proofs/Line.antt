@@ -52,7 +52,7 @@ module _ (b : List ℕ) (e : recordRefusal 1985 b ≡ 0) where
       ltb→lt _ _ (fit-at decimalFits (fieldsOf 1985) (readAll (fieldsOf 1985) b) (placeOf (fieldsOf 1985) frequencyRateDigits)
       (values-small 1985 b e .0) (lit< tt))
 
-  -- a time of sample 0 lies less than 1,000 seconds behind the tag of a day, or at most two before it
+  -- sample 0 is at most two seconds before 0 h and, by the same bound, 1,000 seconds behind the tag: 11 characters
   time-small : length (signedDecimal (sampleTime 1985 b 0)) ≤ 11
   unfolding sampleTime
   time-small =

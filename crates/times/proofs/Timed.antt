@@ -8,7 +8,7 @@ use mathlib.Core.Logic.{⊎-elim}
 use native.Mathlib.Nat.{div-le-self}
 use native.Mathlib.Omega.{arith}
 use lib.Dec.{eqb, ltb, lit≤}
-use lib.IntN.{ℤ, pos, negsuc, negℤ, _+ℤ_, _-ℤ_, _*ℤ_, *ℤ-zero}
+use lib.IntN.{ℤ, pos, negsuc, negℤ, _+ℤ_, _*ℤ_, *ℤ-zero}
 use lib.Signed.{mag}
 use borrow.Author.Tests.{eqb-true, eqb-false, ltb-true, lt-ltb, le-ltb, eq-eqb, ne-eqb}
 use Rattle.lists.proofs.Order.{le-or-lt}
@@ -25,21 +25,21 @@ use Rattle.editions.proofs.Lines.{rate-line}
 use Rattle.record.specs.Record.{recordRefusal}
 use Rattle.record.specs.Stretch.{recordRate, sampleCount}
 use Rattle.record.proofs.Count.{count-small}
-use Rattle.times.specs.SampleTime.{msUs, taggedSample, roundedDown, fromTag, timeOf, sampleTime, timeRefusal}
+use Rattle.times.specs.SampleTime.{msUs, taggedSample, intervals, roundedDown, fromTag, timeOf, sampleTime, timeRefusal}
 use Rattle.times.proofs.Rounding.{not-rounded-by}
 
 -- ## by the tag
 
 pub no-rate : (hz k : ℕ) → hz ≡ 0 → fromTag hz k ≡ pos 0
 no-rate hz k z =
-    ap (λ (t : Bool). cond t (pos 0) (roundedDown ((pos k -ℤ pos taggedSample) *ℤ pos secondUs) hz)) (eq-eqb hz 0 z)
+    ap (λ (t : Bool). cond t (pos 0) (roundedDown (intervals k *ℤ pos secondUs) hz)) (eq-eqb hz 0 z)
 
 module _ (hz k : ℕ) (some : hz ≡ 0 → ⊥) where
   -- by the test whether the sample stands before the tagged one
   by-place : (t : Bool) → ltb k taggedSample ≡ t
       → fromTag hz k ≡ roundedDown (cond t (negsuc (taggedSample - suc k)) (pos (k - taggedSample)) *ℤ pos secondUs) hz
   by-place t e =
-      ap (λ (b : Bool). cond b (pos 0) (roundedDown ((pos k -ℤ pos taggedSample) *ℤ pos secondUs) hz)) (ne-eqb hz 0 some)
+      ap (λ (b : Bool). cond b (pos 0) (roundedDown (intervals k *ℤ pos secondUs) hz)) (ne-eqb hz 0 some)
       ∙ ap (λ (b : Bool). roundedDown (cond b (negsuc (taggedSample - suc k)) (pos (k - taggedSample)) *ℤ pos secondUs) hz) e
 
   pub before-tag : k < taggedSample → fromTag hz k ≡ negsuc (((taggedSample - k) * secondUs - 1) / hz)
@@ -53,7 +53,7 @@ module _ (hz k : ℕ) (some : hz ≡ 0 → ⊥) where
 
 -- ## small
 
--- at most two seconds before a time in microseconds, and at most a second a sample behind it
+-- at most two seconds below zero; above it at most so many microseconds and a second for each sample of a record
 abbrev pub Near : ℕ → ℤ → Type 0
 Near us z = Between (taggedSample * secondUs) (us + mostSamples * secondUs) z
 
@@ -90,10 +90,6 @@ is-sample n b k e z =
     omega (arith, ltb-true k (sampleCount n b) (is-there (ltb k (sampleCount n b)) (p .1)), count-small n b)
 
 -- ## not rounded
-
--- the intervals from the tag to sample k
-abbrev pub intervals : ℕ → ℤ
-intervals k = pos k -ℤ pos taggedSample
 
 -- the way to sample k is that many times the way to the next, by a line of any edition
 whole : (n hz k : ℕ) (l : SampleRate) → SoundLine (layoutOf n) hz l → fromTag (rateHz l) k ≡ intervals k *ℤ pos (intervalUs l)

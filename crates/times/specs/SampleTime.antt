@@ -23,6 +23,10 @@ msUs = 1000
 abbrev pub taggedSample : ℕ
 taggedSample = 2
 
+-- the intervals from the tag to sample k, below zero before the tag
+abbrev pub intervals : ℕ → ℤ
+intervals k = pos k -ℤ pos taggedSample
+
 -- z over d, rounded down, which is toward minus infinity; `negsuc n` is -(n + 1)
 abbrev pub roundedDown : ℤ → ℕ → ℤ
 roundedDown (pos n) d = pos (n / d)
@@ -30,7 +34,7 @@ roundedDown (negsuc n) d = negsuc (n / d)
 
 -- from the tag to sample k at so many a second: k - 2 times 1,000,000 over the rate, rounded down; 0 where there is no rate
 abbrev pub fromTag : ℕ → ℕ → ℤ
-fromTag hz k = cond (eqb hz 0) (pos 0) (roundedDown ((pos k -ℤ pos taggedSample) *ℤ pos secondUs) hz)
+fromTag hz k = cond (eqb hz 0) (pos 0) (roundedDown (intervals k *ℤ pos secondUs) hz)
 
 -- by the tag in milliseconds and the samples a second
 abbrev pub timeOf : ℕ → ℕ → ℕ → ℤ

@@ -1,7 +1,6 @@
 use mathlib.Core.Path.{ap, sym, _∙_}
 use lib.IntN.{ℤ}
 use mir.Facts.{toZ-ofZ}
-use Rattle.c_answers.specs.declared.TimeOut.{TimeOut}
 use Rattle.c_answers.specs.Out.{timeOut}
 use borrow.Author.Needs.{needs}
 use Rattle.c_answers.proofs.time_out.Statement.{statement}

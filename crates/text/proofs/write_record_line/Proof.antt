@@ -1,6 +1,6 @@
 -- Five columns, one behind the other. The two that may be below zero come to their writers as they are read of their bits.
 -- Assumes nothing.
-use mathlib.Core.Path.{_≡_, refl, ap}
+use mathlib.Core.Path.{refl, ap}
 use mir.Facts.{toZ-ofZ}
 use borrow.Author.Needs.{needs}
 use Rattle.text.specs.Text.{signedColumn, rateColumn, recordLine}
