@@ -100,7 +100,7 @@ pub extern "C" fn odr_frequency_rate(edition: u64, bytes: &[u8]) -> FrequencyRat
     c_answers::frequency_rate_out(frequency_rate::frequency_rate(edition, bytes))
 }
 
-// The time of sample k of a record, in microseconds of the day.
+// The time of sample k of a record, in microseconds from 0 h of its day, below zero on the day before.
 #[no_mangle]
 pub extern "C" fn odr_sample_time(edition: u64, bytes: &[u8], k: u64) -> TimeOut
     ensures { λ r. ⌜ told (r .refusal) (r .microseconds) ≡ timeAnswer edition (now (bytes .entry)) k ⌝ }
