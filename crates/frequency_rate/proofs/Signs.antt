@@ -1,15 +1,12 @@
 -- The signed size of a frequency rate. Assumes nothing.
-use Prim.Native.Nat.{ℕ, zero, suc, _*_, _^_, _≤_, _<_}
-use mathlib.Core.Path.{_≡_, refl, ap, sym, _∙_, subst}
+use Prim.Native.Nat.{ℕ, _*_, _^_, _≤_, _<_}
+use mathlib.Core.Path.{_≡_, refl, sym}
 use mathlib.Core.Bool.{Bool, cond}
 use mathlib.Core.List.{List}
 use native.Mathlib.Nat.{mul-le-mul}
 use native.Mathlib.Omega.{arith}
 use lib.Dec.{eqb}
-use lib.IntN.{ℤ, pos, negℤ, _-ℤ_, +ℤ-idl}
-use mir.Syntax.{w64}
-use mir.Val.{SFits, toZ, ofZ}
-use mir.ValLaws.{toZ-pos, toZ-ofZ}
+use lib.IntN.{pos, negℤ}
 use borrow.Author.Tests.{eq-eqb, ne-eqb}
 use Rattle.bits.specs.Bits.{getBits}
 use Rattle.bits.proofs.Decimal.{decimal-room}
@@ -30,29 +27,9 @@ digits-small b = omega (
 pub power-small : (b : List ℕ) → valueOf frequencyRatePower b < 8
 power-small b = value-lt frequencyRatePower b refl refl
 
--- the greatest size: digits times a power of ten below 8
-abbrev pub mostUnits : ℕ
-mostUnits = digitsBelow * 10000000
-
-pub size-bound : (d t : ℕ) → d < digitsBelow → t ≤ 10000000 → d * t ≤ mostUnits
-size-bound d t p q = mul-le-mul {n₁ = d} {m₁ = t} {n₂ = digitsBelow} {m₂ = 10000000} (omega arith) q
-
-negative-fits : (x : ℕ) → x ≤ mostUnits → SFits w64 (negℤ (pos x))
-negative-fits zero h = record { sfits = omega arith }
-negative-fits (suc x) h = record { sfits = omega arith }
-
-module _ (x : ℕ) (h : x ≤ mostUnits) where
-  pub positive : toZ w64 x ≡ pos x
-  positive = toZ-pos w64 x (omega arith)
-
-  minus : pos 0 -ℤ toZ w64 x ≡ negℤ (pos x)
-  minus = ap (λ (z : ℤ). pos 0 -ℤ z) positive ∙ +ℤ-idl (negℤ (pos x))
-
-  pub minus-fits : SFits w64 (pos 0 -ℤ toZ w64 x)
-  minus-fits = subst (SFits w64) (sym minus) (negative-fits x h)
-
-  pub negative : toZ w64 (ofZ w64 (pos 0 -ℤ toZ w64 x)) ≡ negℤ (pos x)
-  negative = toZ-ofZ w64 (pos 0 -ℤ toZ w64 x) minus-fits ∙ minus
+-- the size: digits times a power of ten below 8
+pub size-bound : (d t : ℕ) → d < digitsBelow → t ≤ 10000000 → d * t < 2 ^ 63
+size-bound d t p q = omega (arith, mul-le-mul {n₁ = d} {m₁ = t} {n₂ = digitsBelow} {m₂ = 10000000} (omega arith) q)
 
 -- by the sign bit
 module _ (d m s t : ℕ) (e : t ≡ 10 ^ m) where

@@ -1,9 +1,9 @@
 -- Whole numbers from -low to high. Assumes nothing.
-use Prim.Native.Nat.{ℕ, suc, _+_, _-_, _≤_, _<_}
+use Prim.Native.Nat.{ℕ, zero, suc, _+_, _-_, _≤_, _<_}
 use mathlib.Core.Bool.{Bool, true, false, cond}
 use native.Mathlib.Omega.{arith}
 use lib.Dec.{ltb}
-use lib.IntN.{ℤ, pos, negsuc, _+ℤ_}
+use lib.IntN.{ℤ, pos, negsuc, negℤ, _+ℤ_}
 use lib.Signed.{mag}
 
 -- `negsuc n` is -(n + 1)
@@ -19,6 +19,10 @@ moved-up low high a (negsuc n) h = by-test (ltb a (suc n))
     by-test : (t : Bool) → Between low (a + high) (cond t (negsuc (suc n - suc a)) (pos (a - suc n)))
     by-test true = omega arith
     by-test false = omega arith
+
+pub negated-between : (low high n : ℕ) → n ≤ low → Between low high (negℤ (pos n))
+negated-between low high zero h = omega arith
+negated-between low high (suc n) h = omega arith
 
 -- how far such a number can be from zero
 pub between-mag : (low high m : ℕ) (z : ℤ) → low ≤ m → high < m → Between low high z → mag z < m

@@ -1,4 +1,3 @@
 pub mod Rounding
-pub mod Signs
 pub mod Timed
 pub mod Counts

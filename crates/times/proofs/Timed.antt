@@ -12,7 +12,7 @@ use lib.IntN.{ℤ, pos, negsuc, negℤ, _+ℤ_, _*ℤ_, *ℤ-zero}
 use lib.Signed.{mag}
 use borrow.Author.Tests.{eqb-true, eqb-false, ltb-true, lt-ltb, le-ltb, eq-eqb, ne-eqb}
 use Rattle.lists.proofs.Order.{le-or-lt}
-use Rattle.lists.proofs.Range.{Between, moved-up, between-mag}
+use Rattle.lists.proofs.Range.{Between, moved-up, negated-between, between-mag}
 use Rattle.answers.specs.Refusal.{_when_, first}
 use Rattle.answers.proofs.Refusals.{then-zero}
 use Rattle.fields.specs.Field.{valueOf}
@@ -42,11 +42,13 @@ module _ (hz k : ℕ) (some : hz ≡ 0 → ⊥) where
       ap (λ (b : Bool). cond b (pos 0) (roundedDown (intervals k *ℤ pos secondUs) hz)) (ne-eqb hz 0 some)
       ∙ ap (λ (b : Bool). roundedDown (cond b (negsuc (taggedSample - suc k)) (pos (k - taggedSample)) *ℤ pos secondUs) hz) e
 
-  pub before-tag : k < taggedSample → fromTag hz k ≡ negsuc (((taggedSample - k) * secondUs - 1) / hz)
+  -- rounded down, the way back to a sample before the tag is rounded up
+  pub before-tag : k < taggedSample → fromTag hz k ≡ negℤ (pos (((taggedSample - k) * secondUs - 1) / hz + 1))
   before-tag h =
       let m = (taggedSample - k) * secondUs - 1 in
       let e : suc (taggedSample - suc k) * secondUs ≡ suc m = omega arith in
-      by-place true (lt-ltb k taggedSample h) ∙ ap (λ (x : ℕ). roundedDown (negℤ (pos x)) hz) e
+      let f : suc (m / hz) ≡ m / hz + 1 = omega arith in
+      by-place true (lt-ltb k taggedSample h) ∙ ap (λ (x : ℕ). roundedDown (negℤ (pos x)) hz) e ∙ ap (λ (x : ℕ). negℤ (pos x)) f
 
   pub after-tag : taggedSample ≤ k → fromTag hz k ≡ pos ((k - taggedSample) * secondUs / hz)
   after-tag h = by-place false (le-ltb k taggedSample h)
@@ -66,7 +68,9 @@ near-tag hz k h = by-test (eqb hz 0) refl
         let some = eqb-false hz 0 e in
         ⊎-elim
         (λ p. subst (Near 0) (sym (after-tag hz k some p)) (omega (arith, div-le-self ((k - taggedSample) * secondUs) hz)))
-        (λ p. subst (Near 0) (sym (before-tag hz k some p)) (omega (arith, div-le-self ((taggedSample - k) * secondUs - 1) hz)))
+        (λ p. subst (Near 0) (sym (before-tag hz k some p))
+        (negated-between (taggedSample * secondUs) (mostSamples * secondUs) (((taggedSample - k) * secondUs - 1) / hz + 1)
+        (omega (arith, div-le-self ((taggedSample - k) * secondUs - 1) hz))))
         (le-or-lt taggedSample k)
 
 pub time-near : (tag hz k : ℕ) → k < mostSamples → Near (msUs * tag) (timeOf tag hz k)

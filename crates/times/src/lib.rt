@@ -29,7 +29,7 @@ pub enum PhaseAnswer {
 }
 
 // The microseconds from the tag to sample k, 0 where the header names no rate. They are rounded down once, not with each sample;
-// before the tag that is away from zero.
+// before the tag that is the way back rounded up.
 fn from_tag(hz: u64, k: u64) -> i64
     requires { ⌜ k < mostSamples ⌝ }
     ensures { λ r. ⌜ r ≡ fromTag hz k ⌝ }
@@ -39,7 +39,7 @@ fn from_tag(hz: u64, k: u64) -> i64
     }
     if k < TAGGED_SAMPLE {
         let before = (TAGGED_SAMPLE - k) * SECOND_US;
-        return -1 - (((before - 1) / hz) as i64);
+        return 0 - (((before - 1) / hz + 1) as i64);
     }
     ((k - TAGGED_SAMPLE) * SECOND_US / hz) as i64
 }

@@ -5,9 +5,9 @@ use lib.IntN.{ℤ, _+ℤ_}
 use mir.Facts.{toZ-ofZ}
 use mir.Syntax.{w64}
 use mir.Val.{SFits, toZ, ofZ}
+use mir.ValLaws.{toZ-pos}
 use borrow.Author.Needs.{needs}
 use Rattle.times.specs.SampleTime.{msUs, timeOf}
-use Rattle.times.proofs.Signs.{natural}
 use Rattle.times.proofs.Timed.{time-fits}
 use Rattle.times.proofs.time_of.Statement.{statement}
 use Rattle.times.proofs.time_of.Tie as tie
@@ -25,7 +25,7 @@ module _ (c : tie.After-from-tag) where
   sum : told ≡ timeOf (a .args .tag) (a .args .hz) (a .args .k)
   sum =
       let from = toZ-ofZ (record { sfits = c .from-tag .ok }) ∙ c .from-tag .ensures in
-      (λ i. natural (msUs * a .args .tag) (tag-fits a) i +ℤ from i)
+      (λ i. toZ-pos w64 (msUs * a .args .tag) (tag-fits a) i +ℤ from i)
 
   fitting : SFits w64 told
   fitting =
