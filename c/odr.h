@@ -62,7 +62,7 @@ enum odr_edition {
 enum {
     ODR_LONGEST_RECORD = 4390,   /* bytes of the longest accepted record: 2,195 words, in 1985; the longest of 1992 has 4,166 */
     ODR_LONGEST_SEGMENT = 90,    /* bytes of the longest monitor segment: 45 words */
-    ODR_CELLS = 20,              /* cells of a row, and of a second */
+    ODR_CELLS = 24,              /* cells of a row, and of a second */
     ODR_LONGEST_INPUT = 65536,   /* a longer one gets the line refused,24 */
     ODR_LONGEST_LISTING = 4335,  /* a buffer of this size holds the listing of any input */
     ODR_FINISHED = 255           /* what odr_step answers at the end of a reel: no refusal has this number */
@@ -200,6 +200,7 @@ typedef struct {
     uint64_t squares;
     int8_t least;
     int8_t greatest;
+    uint32_t clipped;  /* samples equal to -128 or 127 */
 } odr_total;
 typedef struct {
     uint8_t refusal;

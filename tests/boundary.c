@@ -24,6 +24,8 @@ _Static_assert(_Generic((odr_time_answer){0}.microseconds, int64_t : 1, default 
 _Static_assert(sizeof((odr_totals_answer){0}.channels) == 4 * sizeof(odr_total), "four channels");
 _Static_assert(sizeof((odr_second_answer){0}.channels) == 4 * sizeof(odr_total), "four channels");
 _Static_assert(sizeof((odr_means_answer){0}.channels) == 4 * sizeof(odr_means), "four channels");
+_Static_assert(sizeof(odr_total) == 8 + 8 + 1 + 1 + 2 + 4, "a total, and two bytes before its count that are nothing");
+_Static_assert(ODR_CELLS == 4 + 4 * 5, "four cells of the records and their second, five of each channel");
 _Static_assert(ODR_FINISHED > (int)ODR_NO_SEGMENTS && ODR_FINISHED <= UINT8_MAX, "finished is no refusal and fits an answer");
 
 /* The longest line: a number of 5 digits, microseconds of 11, an origin of 1, 8 digits of hertz with a point and 6 places, a
@@ -91,8 +93,8 @@ static uint8_t write_header(example *r, const odr_header *header) {
 
 static void print_channels(const odr_total *channels) {
     for (int c = 0; c < 4; c++) {
-        printf("  channel %d: %" PRId64 " %" PRIu64 " %d %d\n", c + 1, channels[c].sum, channels[c].squares, channels[c].least,
-               channels[c].greatest);
+        printf("  channel %d: %" PRId64 " %" PRIu64 " %d %d, %" PRIu32 " clipped\n", c + 1, channels[c].sum, channels[c].squares,
+               channels[c].least, channels[c].greatest, channels[c].clipped);
     }
 }
 
@@ -308,8 +310,9 @@ static void sample_rates(const example *r) {
     }
 }
 
-/* Channel 1 is 3, -4 and then 0: sum -1, squares 9 + 16; 2 is 1 throughout; 3 is -128, 16,384 when squared; 4 is 127, 16,129. The
- * first set of samples stands behind the header, a byte for each channel: 03 01 80 7F. */
+/* Channel 1 is 3, -4 and then 0: sum -1, squares 9 + 16; 2 is 1 throughout; 3 is -128, 16,384 when squared; 4 is 127, 16,129. All
+ * samples of 3 and 4 are clipped, and none of the others. The first set of samples stands behind the header, a byte for each
+ * channel: 03 01 80 7F. */
 static void samples(example *r) {
     int8_t one[MOST_SAMPLES] = {3, -4}, two[MOST_SAMPLES], three[MOST_SAMPLES], four[MOST_SAMPLES], out[4][MOST_SAMPLES + 1];
     const size_t n = r->samples;
@@ -539,15 +542,16 @@ static void test(void) {
     printf("is_consistent %u %s\n", answer.refusal, answer.consistent ? "yes" : "no");
 }
 
-/* 60 row cells and 40 second cells become 0, two stay. A second is full with two records, so the third is 18; 4 is above the
- * highest number. Two records have twice the totals of one, over 200 samples -2 / 200 and 50 / 200, over 500 -2 / 500 and
- * 50 / 500. The second after has none, the one after that is outside. */
+/* 72 row cells and 48 second cells become 0, two stay; 71 row cells are too few, and so are 60, 20 for each number. A second is
+ * full with two records, so the third is 18; 4 is above the highest number. Two records have twice the totals of one, over 200
+ * samples -2 / 200 and 50 / 200, over 500 -2 / 500 and 50 / 500. The second after has none, the one after that is outside. */
 static void fill(const example *r) {
     memset(rows, 0xEE, sizeof rows);
     memset(seconds, 0xEE, sizeof seconds);
     open(r->header == 80 ? "of 79 bytes" : "of 165 bytes", r, r->header - 1, SECONDS, ROW_CELLS);
     open("of no seconds", r, r->length, 0, ROW_CELLS);
-    open("of 59 row cells", r, r->length, SECONDS, 59);
+    open("of 71 row cells", r, r->length, SECONDS, 71);
+    open("of 60 row cells", r, r->length, SECONDS, 60);
     open("whole", r, r->length, SECONDS, ROW_CELLS);
     printf("insert");
     for (unsigned number = 1; number <= 4; number++) {
@@ -576,6 +580,32 @@ static void change(const example *given) {
     seconds[0]++;
     test();
     seconds[0]--;
+}
+
+/* Channel 1 is -128, -127, 126, 127 and then 0: two are clipped; sum -2, squares 16,384 + 16,129 + 15,876 + 16,129 = 64,518. 2 is
+ * -127 and 126 by turns, none: each pair adds -1 and 32,005. 3 is -128 and 127 by turns, all: each pair adds -1 and 32,513. 4 is 0
+ * but for the last, 127. Of two such records in a second everything counts twice. One of zeros in the place of the second takes
+ * away what that had; without the first, only the one of zeros is left. */
+static void clipped(const example *given) {
+    int8_t one[MOST_SAMPLES] = {-128, -127, 126, 127}, two[MOST_SAMPLES], three[MOST_SAMPLES], four[MOST_SAMPLES] = {0};
+    example r = *given, zeros = *given;
+    const size_t n = r.samples;
+    for (size_t k = 0; k < n; k++) {
+        two[k] = k % 2 == 0 ? -127 : 126;
+        three[k] = k % 2 == 0 ? -128 : 127;
+    }
+    four[n - 1] = 127;
+    memset(zeros.bytes + zeros.header, 0, 4 * n);
+    printf("clipped: %u\n", odr_write_samples(r.edition, r.bytes, r.length, one, n, two, n, three, n, four, n));
+    print_channels(odr_totals(r.edition, r.bytes, r.length).channels);
+    open("for clipped samples", &r, r.length, SECONDS, ROW_CELLS);
+    printf("insert 1: %u, 2: %u\n", insert(&r, 1), insert(&r, 2));
+    query(NOON);
+    printf("insert 2 again: %u\n", insert(&zeros, 2));
+    query(NOON);
+    printf("remove 1: %u\n", remove_number(1));
+    query(NOON);
+    test();
 }
 
 static void call_all(const char *name, const example *r, uint64_t number, uint64_t second) {
@@ -794,6 +824,7 @@ static void one_edition(example *r) {
     fill(r);
     change(r);
     forge(r);
+    clipped(r);
     seconds_of_tags(r);
 }
 

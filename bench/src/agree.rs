@@ -28,7 +28,13 @@ fn same_totals(record: &[u8]) {
     let library = odr::totals(EDITION_1985, record);
     let rust = totals::totals(record);
     assert_eq!(library.refusal, number(&rust));
-    let channel = |t: totals::Total| odr::Total { sum: t.sum, squares: t.squares, least: t.least, greatest: t.greatest };
+    let channel = |t: totals::Total| odr::Total {
+        sum: t.sum,
+        squares: t.squares,
+        least: t.least,
+        greatest: t.greatest,
+        clipped: t.clipped,
+    };
     assert_eq!(library.channels, rust.unwrap_or_default().map(channel));
 }
 

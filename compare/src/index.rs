@@ -2,7 +2,7 @@
 //! seconds" and "The ledger".
 
 use crate::lent::{around, Lent};
-use crate::records::{any_record, date, met_time, outcome, total};
+use crate::records::{any_record, date, met_clipped, met_time, outcome, total};
 use crate::run::{answer, day_word, Answer, Part, Run, Said};
 use odr::{ConsistencyAnswer, MeansAnswer, OpenAnswer, SecondAnswer, CELLS};
 use second::book::{self, Ledger, Opening, SecondTotals};
@@ -345,7 +345,13 @@ impl History {
             _ => "",
         };
         let actual = odr::query(passed(&self.given), second, self.rows.body(), self.seconds.body());
+        let told = matches!(said, Said::Is(_));
         self.compare(run, ("odr_query", kind), self.held_date(), actual, said, &[]);
+        if let (true, Ok(t), Ok(rate)) = (told, expected, self.edition.rate(self.opened.rate)) {
+            if t.records > 0 {
+                met_clipped(run, "odr_query", self.edition.number, t.records * rate.samples, &t.channels);
+            }
+        }
     }
 
     fn means(&mut self, run: &mut Run, second: u64) {

@@ -75,19 +75,21 @@ pub fn any_record(rng: &mut Rng) -> (u64, Lent<u8>) {
     (edition, Lent::of(&any_bytes(rng, made)))
 }
 
-/// A call that reads any bytes as a record of an edition.
+/// A call that reads any bytes as a record of an edition; gives the edition and what the second program answers.
 fn read<T, A: Answer>(
     run: &mut Run,
     call: &str,
     second: impl Fn(u64, &[u8]) -> Result<T, u8>,
     given: impl Fn(&T) -> A,
     library: impl Fn(u64, &[u8]) -> A,
-) {
+) -> (u64, Result<T, u8>) {
     let (edition, mut record) = any_record(&mut run.rng);
-    let expected = answer(&second(edition, record.body()), given);
+    let told = second(edition, record.body());
+    let expected = answer(&told, given);
     let actual = library(edition, record.body());
     let outcome = outcome(edition, record.body(), expected.number());
     run.compare(call, &outcome, actual, expected, &[("record", record.difference())]);
+    (edition, told)
 }
 
 pub fn refusal(run: &mut Run) {
@@ -159,12 +161,28 @@ pub fn sample_time(run: &mut Run) {
 
 /// The second program's total of a channel as the library gives it.
 pub fn total(t: samples::Total) -> odr::Total {
-    odr::Total { sum: t.sum, squares: t.squares, least: t.least, greatest: t.greatest }
+    odr::Total { sum: t.sum, squares: t.squares, least: t.least, greatest: t.greatest, clipped: t.clipped }
+}
+
+/// Counts whether each channel, of so many samples, has none, some or only clipped ones.
+pub fn met_clipped(run: &mut Run, call: &str, edition: u64, samples: u64, channels: &[samples::Total; 4]) {
+    for (c, total) in channels.iter().enumerate() {
+        let clipped = match u64::from(total.clipped) {
+            0 => "none",
+            all if all == samples => "only",
+            _ => "some",
+        };
+        run.met_besides(call, &format!("{edition} {clipped} clipped in {}", c + 1));
+    }
 }
 
 pub fn totals(run: &mut Run) {
-    let given = |channels: &[samples::Total; 4]| TotalsAnswer { refusal: 0, channels: channels.map(total) };
-    read(run, "odr_totals", samples::totals, given, odr::totals);
+    let call = "odr_totals";
+    let counted = |edition, record: &[u8]| Ok((record::record_rate(edition, record)?.samples, samples::totals(edition, record)?));
+    let given = |(_, channels): &(u64, [samples::Total; 4])| TotalsAnswer { refusal: 0, channels: channels.map(total) };
+    if let (edition, Ok((samples, channels))) = read(run, call, counted, given, odr::totals) {
+        met_clipped(run, call, edition, samples, &channels);
+    }
 }
 
 pub fn read_header(run: &mut Run) {

@@ -22,7 +22,8 @@ use std::fmt::Debug;
 /// What follows is counted besides the number 0:
 /// - `sample`, `last sample`: the one asked for;
 /// - `tag`: the time tag and the rate of the record;
-/// - `below zero`: a time on the day before, of an insert that of sample 0.
+/// - `below zero`: a time on the day before, of an insert that of sample 0;
+/// - `none`, `some`, `only clipped`: how many samples of a channel, 1 to 4, of a record or of a second that is not empty.
 const CALLS: [(&str, &str, &str); 20] = [
     ("odr_refusal", "0*,1-7,8*,9-11,other's 3", "25,few bytes 25"),
     ("odr_read_header", "0*,1-7,8*,9-11,other's 3", "25,few bytes 25"),
@@ -41,7 +42,11 @@ const CALLS: [(&str, &str, &str); 20] = [
         "25,few bytes 25",
     ),
     ("odr_phases", "0*,1-7,8*,9-11,other's 3", "25,few bytes 25"),
-    ("odr_totals", "0*,1-7,8*,9-11,other's 3", "25,few bytes 25"),
+    (
+        "odr_totals",
+        "0*,1-7,8*,9-11,other's 3,none clipped in 1-4,some clipped in 1-4,only clipped in 1-4",
+        "25,few bytes 25",
+    ),
     ("odr_segment", "this 1-11,earlier 1-11", "25,1985 this 0,1985 earlier 0,1985 20,1985 23,1992 segment 26,1992 no segment 26"),
     ("odr_step", "record 0*,finished 255,1-7,8*,9-11,other's 3", "25,finished 25"),
     ("odr_open", "0*,1-7,8*,9-11,13-14,other's 3", "25,few bytes 25"),
@@ -59,7 +64,8 @@ const CALLS: [(&str, &str, &str); 20] = [
     ),
     (
         "odr_query",
-        "0*,empty 0*,kept 0*,17,short 14,forged 13*,forged edition 13,forged rate 13,forged 14,forged 17,forged left open",
+        "0*,empty 0*,kept 0*,17,short 14,forged 13*,forged edition 13,forged rate 13,forged 14,forged 17,forged left open,\
+         none clipped in 1-4,some clipped in 1-4,only clipped in 1-4",
         "",
     ),
     (

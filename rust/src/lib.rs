@@ -35,7 +35,7 @@ pub const LONGEST_RECORD: usize = 4_390;
 /// Bytes of the longest monitor segment.
 pub const LONGEST_SEGMENT: usize = 90;
 /// Cells of a row, and of a second.
-pub const CELLS: usize = 20;
+pub const CELLS: usize = 24;
 /// A longer input gets the line `refused,24`.
 pub const LONGEST_INPUT: usize = 65_536;
 /// A buffer of so many bytes holds the listing of any input.
@@ -208,8 +208,8 @@ structs! {
     TimeAnswer { refusal: u8, microseconds: i64 }
     /// The two phases in cycles.
     PhasesAnswer { refusal: u8, first: f64, second: f64 }
-    /// Of the samples of a channel.
-    Total { sum: i64, squares: u64, least: i8, greatest: i8 }
+    /// Of the samples of a channel; clipped are those equal to -128 or 127.
+    Total { sum: i64, squares: u64, least: i8, greatest: i8, clipped: u32 }
     /// Of channels 1 to 4 of a record.
     TotalsAnswer { refusal: u8, channels: [Total; 4] }
     /// A record from `start` up to `end`, which is also the next place, where `answer` is 0; else both are 0.

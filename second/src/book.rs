@@ -6,6 +6,9 @@ use crate::record::{is_date, read_header};
 use crate::samples::{channels, means, total, Means, Total};
 use std::collections::BTreeMap;
 
+/// The cells of a row, and of a second.
+pub const CELLS: u64 = 24;
+
 /// What opening returns: the limits given, the edition named and the pattern's values, which 15 compares.
 #[derive(Clone, Debug, PartialEq, Eq)]
 pub struct Opening {
@@ -44,7 +47,7 @@ fn judge(o: &Opening, row_cells_len: usize, second_cells_len: usize) -> Result<(
     if !limits || !pattern {
         return Err(13);
     }
-    if (row_cells_len as u64) < 20 * o.highest || (second_cells_len as u64) < 20 * o.count {
+    if (row_cells_len as u64) < CELLS * o.highest || (second_cells_len as u64) < CELLS * o.count {
         return Err(14);
     }
     Ok(())

@@ -130,10 +130,34 @@ pub fn record_with(rng: &mut Rng, edition: &Edition, rate: Rate, words: u64) -> 
         let sample = rng.pick(&[0x00, 0x01, 0x7F, 0x80, 0xFF]);
         r[edition.header_bytes()..2 * rate.n as usize].fill(sample);
     }
+    if rng.one_in(2) {
+        for channel in 0..4 {
+            clip(rng, &mut r[edition.header_bytes()..2 * rate.n as usize], channel);
+        }
+    }
     if edition.has_segments && rng.one_in(8) {
         set_word(&mut r, rate.n as usize + 1, 0);
     }
     r
+}
+
+/// Gives a channel, 0 to 3 in a stretch of samples, no clipped samples but those beside them, or one, or some, or only such.
+fn clip(rng: &mut Rng, samples: &mut [u8], channel: usize) {
+    let one = rng.next() as usize % (samples.len() / 4);
+    let kind = rng.next() % 4;
+    for (k, set) in samples.chunks_exact_mut(4).enumerate() {
+        let clipped = match kind {
+            0 => false,
+            1 => k == one,
+            2 => rng.one_in(8),
+            _ => true,
+        };
+        if clipped {
+            set[channel] = rng.pick(&[0x7F, 0x80]);
+        } else if [0x7F, 0x80].contains(&set[channel]) {
+            set[channel] = rng.pick(&[0x7E, 0x81]);
+        }
+    }
 }
 
 /// An accepted record of the other edition; at times with this one's conversion code, rate and sync word where this one has them.

@@ -61,6 +61,8 @@ pub struct Total {
     pub squares: u64,
     pub least: i8,
     pub greatest: i8,
+    /// Samples equal to -128 or 127.
+    pub clipped: u32,
 }
 
 /// The total of some samples, 0 throughout for none.
@@ -70,6 +72,7 @@ pub fn total(samples: &[i8]) -> Total {
         squares: samples.iter().map(|&s| (i64::from(s) * i64::from(s)) as u64).sum(),
         least: samples.iter().copied().min().unwrap_or(0),
         greatest: samples.iter().copied().max().unwrap_or(0),
+        clipped: samples.iter().filter(|&&s| [-128, 127].contains(&s)).count() as u32,
     }
 }
 

@@ -19,6 +19,9 @@ const TABLE_1: [(u64, u64, u64, u64, u64); 19] = [
     (400, 200, 2, 483, 2500), (250, 125, 2, 333, 4000), (200, 100, 2, 283, 5000),
 ];
 
+/// The cells of a row, and of a second.
+const CELLS: usize = 24;
+
 const UNKNOWN: [u64; 14] = [
     0, 1, 85, 92, 1984, 1986, 1991, 1993, 1985 + (1 << 16), 1992 + (1 << 16), 1985 + (1 << 32), 1992 + (1 << 32), 1992 << 8,
     u64::MAX,
@@ -188,7 +191,7 @@ fn sample_bytes_and_times() {
         // The samples go from the header to the end.
         let mut r = plain(hz, 1, 1);
         r[166..].fill(0xFF);
-        let ones = Total { sum: -(count as i64), squares: count, least: -1, greatest: -1 };
+        let ones = Total { sum: -(count as i64), squares: count, least: -1, greatest: -1, clipped: 0 };
         assert_eq!(totals(1992, &r), Ok([ones; 4]));
         assert_eq!((r.len() as u64, means(ones, count).mean), (2 * words, -1.0));
         // The tag is the third sample's time.
@@ -477,10 +480,10 @@ fn refusal_25() {
             }
         }
         // Of a put: before the opening's own refusals.
-        let o = open(1992, &new, 0, 1, 1, 20, 20).unwrap();
+        let o = open(1992, &new, 0, 1, 1, CELLS, CELLS).unwrap();
         for o in [o.clone(), Opening { edition, ..o.clone() }, Opening { tape: 0, ..o }] {
             assert_eq!(Ledger::default().put(&o, edition, &new, 0, 0), Err(25));
-            assert_eq!(Ledger::default().put(&o, edition, &[], 20, 20), Err(25));
+            assert_eq!(Ledger::default().put(&o, edition, &[], CELLS, CELLS), Err(25));
         }
     }
     assert_eq!(EDITIONS.map(|edition| edition.number), [1985, 1992]);
@@ -525,42 +528,42 @@ fn reel_steps() {
 fn books_of_both_editions() {
     let (old, new) = (of_1985(1, 0), plain(200, 1, 0));
     for (own, other, edition, another) in [(&old, &new, 1985, 1992), (&new, &old, 1992, 1985)] {
-        let o = open(edition, own, 0, 1, 2, 40, 20).unwrap();
+        let o = open(edition, own, 0, 1, 2, 2 * CELLS, CELLS).unwrap();
         assert_eq!((o.edition, o.rate), (edition, 200));
         let mut ledger = Ledger::default();
         // The edition alone differs: 15. A record of the one named as of the other: its own refusal.
-        assert_eq!(ledger.put(&o, another, other, 40, 20), Err(15));
-        assert_eq!(ledger.put(&o, edition, other, 40, 20), Err(3));
-        assert_eq!(ledger.put(&o, another, own, 40, 20), Err(3));
+        assert_eq!(ledger.put(&o, another, other, 2 * CELLS, CELLS), Err(15));
+        assert_eq!(ledger.put(&o, edition, other, 2 * CELLS, CELLS), Err(3));
+        assert_eq!(ledger.put(&o, another, own, 2 * CELLS, CELLS), Err(3));
         // 13 and 14 come before 15, and 15 before 16 and 17.
-        assert_eq!(ledger.put(&Opening { tape: 0, ..o.clone() }, another, other, 40, 20), Err(13));
-        assert_eq!(ledger.put(&o, another, other, 39, 20), Err(14));
+        assert_eq!(ledger.put(&Opening { tape: 0, ..o.clone() }, another, other, 2 * CELLS, CELLS), Err(13));
+        assert_eq!(ledger.put(&o, another, other, 2 * CELLS - 1, CELLS), Err(14));
         let mut far = other.clone();
         set_word(&mut far, 2, 3);
         set_tag(&mut far, 7, 1_000);
-        assert_eq!(ledger.put(&o, another, &far, 40, 20), Err(15));
-        assert_eq!(ledger.put(&o, edition, own, 40, 20), Ok(()));
-        assert_eq!(ledger.ask(&o, 0, 40, 20).unwrap().records, 1);
+        assert_eq!(ledger.put(&o, another, &far, 2 * CELLS, CELLS), Err(15));
+        assert_eq!(ledger.put(&o, edition, own, 2 * CELLS, CELLS), Ok(()));
+        assert_eq!(ledger.ask(&o, 0, 2 * CELLS, CELLS).unwrap().records, 1);
         // A held edition that is unknown is 13 in every call, after 1 to 11 of the record.
         for unknown in UNKNOWN {
             let o = Opening { edition: unknown, ..o.clone() };
-            assert_eq!(ledger.put(&o, edition, own, 40, 20), Err(13));
-            assert_eq!(ledger.put(&o, edition, &[], 40, 20), Err(1));
-            assert_eq!(ledger.take_out(&o, 1, 40, 20), Err(13));
-            assert_eq!(ledger.ask(&o, 0, 40, 20), Err(13));
-            assert_eq!(ledger.means(&o, 0, 40, 20), Err(13));
-            assert_eq!(ledger.book_test(&o, 40, 20), Err(13));
+            assert_eq!(ledger.put(&o, edition, own, 2 * CELLS, CELLS), Err(13));
+            assert_eq!(ledger.put(&o, edition, &[], 2 * CELLS, CELLS), Err(1));
+            assert_eq!(ledger.take_out(&o, 1, 2 * CELLS, CELLS), Err(13));
+            assert_eq!(ledger.ask(&o, 0, 2 * CELLS, CELLS), Err(13));
+            assert_eq!(ledger.means(&o, 0, 2 * CELLS, CELLS), Err(13));
+            assert_eq!(ledger.book_test(&o, 2 * CELLS, CELLS), Err(13));
         }
     }
     // The held rate is judged by the held edition's table.
-    let o = open(1992, &plain(31_250, 1, 0), 0, 1, 2, 40, 20).unwrap();
+    let o = open(1992, &plain(31_250, 1, 0), 0, 1, 2, 2 * CELLS, CELLS).unwrap();
     let mut ledger = Ledger::default();
-    assert_eq!(ledger.book_test(&o, 40, 20), Ok(true));
+    assert_eq!(ledger.book_test(&o, 2 * CELLS, CELLS), Ok(true));
     let o = Opening { edition: 1985, ..o };
-    assert_eq!(ledger.put(&o, 1992, &plain(31_250, 1, 0), 40, 20), Err(13));
-    assert_eq!(ledger.take_out(&o, 1, 40, 20), Err(13));
-    assert_eq!([ledger.ask(&o, 0, 40, 20).err(), ledger.means(&o, 0, 40, 20).err()], [Some(13); 2]);
-    assert_eq!(ledger.book_test(&o, 40, 20), Err(13));
+    assert_eq!(ledger.put(&o, 1992, &plain(31_250, 1, 0), 2 * CELLS, CELLS), Err(13));
+    assert_eq!(ledger.take_out(&o, 1, 2 * CELLS, CELLS), Err(13));
+    assert_eq!([ledger.ask(&o, 0, 2 * CELLS, CELLS).err(), ledger.means(&o, 0, 2 * CELLS, CELLS).err()], [Some(13); 2]);
+    assert_eq!(ledger.book_test(&o, 2 * CELLS, CELLS), Err(13));
 }
 
 /// A record's second is that of its tag, though its first two samples stand in the second before, or on the day before.
@@ -568,17 +571,18 @@ fn books_of_both_editions() {
 fn the_second_of_the_tag() {
     let made: [(u64, fn(u64, u64) -> Vec<u8>); 2] = [(1985, of_1985), (1992, |number, tag_ms| plain(200, number, tag_ms))];
     for (edition, made) in made {
-        let o = open(edition, &made(1, 0), 0, 2, 2, 40, 40).unwrap();
+        let o = open(edition, &made(1, 0), 0, 2, 2, 2 * CELLS, 2 * CELLS).unwrap();
         let mut ledger = Ledger::default();
         for (number, tag_ms, first_us) in [(1, 0, -10_000), (2, 1_000, 990_000)] {
             let r = made(number, tag_ms);
             assert_eq!(sample_time(edition, &r, 0), Ok(first_us));
-            assert_eq!(ledger.put(&o, edition, &r, 40, 40), Ok(()));
+            assert_eq!(ledger.put(&o, edition, &r, 2 * CELLS, 2 * CELLS), Ok(()));
         }
-        assert_eq!([0, 1].map(|second| ledger.ask(&o, second, 40, 40).unwrap().records), [1, 1]);
+        assert_eq!([0, 1].map(|second| ledger.ask(&o, second, 2 * CELLS, 2 * CELLS).unwrap().records), [1, 1]);
         // The window goes by the tag too.
-        let o = open(edition, &made(1, 0), 1, 1, 2, 40, 20).unwrap();
-        let found = [999, 1_000, 1_999, 2_000].map(|tag_ms| Ledger::default().put(&o, edition, &made(1, tag_ms), 40, 20));
+        let o = open(edition, &made(1, 0), 1, 1, 2, 2 * CELLS, CELLS).unwrap();
+        let put = |tag_ms| Ledger::default().put(&o, edition, &made(1, tag_ms), 2 * CELLS, CELLS);
+        let found = [999, 1_000, 1_999, 2_000].map(put);
         assert_eq!(found, [Err(17), Ok(()), Ok(()), Err(17)]);
     }
 }
@@ -586,7 +590,7 @@ fn the_second_of_the_tag() {
 #[test]
 fn full_and_kept_seconds_of_every_rate() {
     for (hz, count, full, ..) in TABLE_1 {
-        let (rows, seconds) = (20 * 99, 20 * 2);
+        let (rows, seconds) = (CELLS * 99, CELLS * 2);
         let o = open(1992, &plain(hz, 1, 0), 0, 2, 99, rows, seconds).unwrap();
         let mut ledger = Ledger::default();
         for number in 1..=full {

@@ -8,6 +8,9 @@ use second::record::{accept, read_header, write_header, LAST_MS};
 use second::reel::{step, Step};
 use second::samples::{channels, write_samples};
 
+/// The cells of a row, and of a second.
+const CELLS: usize = 24;
+
 /// Each rate of each edition.
 fn rates() -> impl Iterator<Item = (&'static Edition, Rate)> {
     EDITIONS.into_iter().flat_map(|edition| edition.rates.iter().map(move |rate| (edition, *rate)))
@@ -171,7 +174,7 @@ fn whole_seconds_are_kept() {
     let mut rng = Rng(6);
     for (edition, rate) in rates() {
         let pattern = record_of(&mut rng, edition, rate);
-        let (rows, cells) = (20 * 200, 20 * 3);
+        let (rows, cells) = (CELLS * 200, CELLS * 3);
         let o = open(edition.number, &pattern, 86_397, 3, 200, rows, cells).unwrap();
         let mut ledger = Ledger::default();
         for r in session(&mut rng, edition, &pattern, 86_397, 3) {
@@ -194,7 +197,7 @@ fn histories() {
         let pattern = record_of(&mut rng, edition, rate);
         let first = rng.within(0, 86_397);
         let (count, highest) = (rng.within(1, 3), rng.within(1, 3 * rate.records_a_second));
-        let (rows, cells) = (20 * highest as usize, 20 * count as usize);
+        let (rows, cells) = (CELLS * highest as usize, CELLS * count as usize);
         let o = open(edition.number, &pattern, first, count, highest, rows, cells).unwrap();
         let mut ledger = Ledger::default();
         let mut where_held = vec![None; highest as usize + 1];

@@ -155,7 +155,7 @@ fn times_that_are_not_whole_are_rounded_down() {
 
 #[test]
 fn totals_and_means() {
-    let t = Total { sum: -1, squares: 25, least: -4, greatest: 3 };
+    let t = Total { sum: -1, squares: 25, least: -4, greatest: 3, clipped: 0 };
     assert_eq!(total(&[3, -4]), t);
     assert_eq!(total(&[]), Total::default());
     assert_eq!(means(t, 2), Means { mean: -0.5, mean_square: 12.5 });
@@ -164,15 +164,16 @@ fn totals_and_means() {
         r[80..480].fill(5);
         r[81] = 0x80;
     });
-    let five = Total { sum: 500, squares: 2500, least: 5, greatest: 5 };
-    assert_eq!(totals(1985, &r), Ok([five, Total { sum: 367, squares: 18_859, least: -128, greatest: 5 }, five, five]));
+    let five = Total { sum: 500, squares: 2500, least: 5, greatest: 5, clipped: 0 };
+    let one = Total { sum: 367, squares: 18_859, least: -128, greatest: 5, clipped: 1 };
+    assert_eq!(totals(1985, &r), Ok([five, one, five, five]));
     // The samples end at N. A record that is not accepted has no totals, though its samples are there.
     for rate in EDITION_1985.rates {
         let mut r = plain(rate.hz, 1, 0);
         let end = 2 * rate.n as usize;
         r[80..end].fill(0xFF);
         r[end..].fill(7);
-        let ones = Total { sum: -(rate.samples as i64), squares: rate.samples, least: -1, greatest: -1 };
+        let ones = Total { sum: -(rate.samples as i64), squares: rate.samples, least: -1, greatest: -1, clipped: 0 };
         assert_eq!(totals(1985, &r), Ok([ones; 4]));
         r[1] = 0;
         assert_eq!(totals(1985, &r), Err(7));
@@ -467,8 +468,10 @@ fn refusal_12() {
     assert_eq!(read_samples(1985, &case(), none()), Err(12));
 }
 
-const ROWS: usize = 20 * 65_535;
-const SECONDS: usize = 20 * 86_400;
+/// The cells of a row, and of a second.
+const CELLS: usize = 24;
+const ROWS: usize = CELLS * 65_535;
+const SECONDS: usize = CELLS * 86_400;
 
 #[test]
 fn refusal_13() {
@@ -484,7 +487,7 @@ fn refusal_13() {
     assert_eq!(open(1985, &[], 0, 0, 0, 0, 0), Err(1));
     assert_eq!(open(1985, &pattern, 0, 0, 1, 0, 0), Err(13));
 
-    let good = open(1985, &pattern, 43_200, 1, 2, 40, 20).unwrap();
+    let good = open(1985, &pattern, 43_200, 1, 2, 2 * CELLS, CELLS).unwrap();
     let forged = |change: fn(&mut Opening)| {
         let mut o = good.clone();
         change(&mut o);
@@ -514,12 +517,12 @@ fn refusal_13() {
         (forged(|o| o.first_second = u64::MAX), 13),
     ] {
         let mut ledger = Ledger::default();
-        assert_eq!(ledger.book_test(&o, 40, 20).err().unwrap_or(0), found);
-        assert_eq!(ledger.ask(&o, 43_200, 40, 20).err().unwrap_or(0), found);
-        assert_eq!(ledger.means(&o, 43_200, 40, 20).err().unwrap_or(0), found);
-        assert_eq!(ledger.take_out(&o, 1, 40, 20), Err(if found == 0 { 19 } else { 13 }));
-        assert_eq!(ledger.put(&o, 1985, &pattern, 40, 20), Err(if found == 0 { 15 } else { 13 }));
-        assert_eq!(ledger.put(&o, 1985, &[], 40, 20), Err(1));
+        assert_eq!(ledger.book_test(&o, 2 * CELLS, CELLS).err().unwrap_or(0), found);
+        assert_eq!(ledger.ask(&o, 43_200, 2 * CELLS, CELLS).err().unwrap_or(0), found);
+        assert_eq!(ledger.means(&o, 43_200, 2 * CELLS, CELLS).err().unwrap_or(0), found);
+        assert_eq!(ledger.take_out(&o, 1, 2 * CELLS, CELLS), Err(if found == 0 { 19 } else { 13 }));
+        assert_eq!(ledger.put(&o, 1985, &pattern, 2 * CELLS, CELLS), Err(if found == 0 { 15 } else { 13 }));
+        assert_eq!(ledger.put(&o, 1985, &[], 2 * CELLS, CELLS), Err(1));
         assert_eq!(ledger, Ledger::default());
     }
 }
@@ -527,10 +530,10 @@ fn refusal_13() {
 #[test]
 fn refusal_14() {
     let pattern = case();
-    for (rows, seconds, found) in [(40, 60, 0), (39, 60, 14), (40, 59, 14), (0, 0, 14), (41, 61, 0)] {
+    for (rows, seconds, found) in [(48, 72, 0), (47, 72, 14), (48, 71, 14), (40, 60, 14), (0, 0, 14), (49, 73, 0)] {
         let opened = open(1985, &pattern, 43_199, 3, 2, rows, seconds);
         assert_eq!(opened.err().unwrap_or(0), found);
-        let o = open(1985, &pattern, 43_199, 3, 2, 40, 60).unwrap();
+        let o = open(1985, &pattern, 43_199, 3, 2, 48, 72).unwrap();
         let mut ledger = Ledger::default();
         assert_eq!(ledger.put(&o, 1985, &pattern, rows, seconds).err().unwrap_or(0), found);
         assert_eq!(ledger.ask(&o, 43_200, rows, seconds).err().unwrap_or(0), found);
@@ -543,7 +546,7 @@ fn refusal_14() {
 #[test]
 fn refusal_15() {
     let pattern = case();
-    let o = open(1985, &pattern, 43_200, 1, 2, 40, 20).unwrap();
+    let o = open(1985, &pattern, 43_200, 1, 2, 2 * CELLS, CELLS).unwrap();
     let mut ledger = Ledger::default();
     let others: [fn(&mut Vec<u8>); 6] = [
         |r| *r = plain(1_000, 1, 43_200_000),
@@ -554,7 +557,7 @@ fn refusal_15() {
         |r| r[9] = 1,
     ];
     for change in others {
-        assert_eq!(ledger.put(&o, 1985, &with(change), 40, 20), Err(15));
+        assert_eq!(ledger.put(&o, 1985, &with(change), 2 * CELLS, CELLS), Err(15));
     }
     // 15 before 16 and 17; other fields may differ.
     let far = with(|r| {
@@ -562,48 +565,48 @@ fn refusal_15() {
         set_word(r, 2, 3);
         set_tag(r, 7, 0);
     });
-    assert_eq!(ledger.put(&o, 1985, &far, 40, 20), Err(15));
+    assert_eq!(ledger.put(&o, 1985, &far, 2 * CELLS, CELLS), Err(15));
     let free = with(|r| {
         r.resize(790, 1);
         set_word(r, 3, 395);
         set_word(r, 4, 0x0102);
         r[16..28].fill(1);
     });
-    assert_eq!(ledger.put(&o, 1985, &free, 40, 20), Ok(()));
+    assert_eq!(ledger.put(&o, 1985, &free, 2 * CELLS, CELLS), Ok(()));
 }
 
 #[test]
 fn refusal_16() {
-    let o = open(1985, &plain(200, 9, 0), 5, 1, 2, 40, 20).unwrap();
+    let o = open(1985, &plain(200, 9, 0), 5, 1, 2, 2 * CELLS, CELLS).unwrap();
     let mut ledger = Ledger::default();
-    assert_eq!(ledger.put(&o, 1985, &plain(200, 2, 5_000), 40, 20), Ok(()));
-    assert_eq!(ledger.put(&o, 1985, &plain(200, 3, 5_000), 40, 20), Err(16));
-    assert_eq!(ledger.put(&o, 1985, &plain(200, 3, 0), 40, 20), Err(16));
+    assert_eq!(ledger.put(&o, 1985, &plain(200, 2, 5_000), 2 * CELLS, CELLS), Ok(()));
+    assert_eq!(ledger.put(&o, 1985, &plain(200, 3, 5_000), 2 * CELLS, CELLS), Err(16));
+    assert_eq!(ledger.put(&o, 1985, &plain(200, 3, 0), 2 * CELLS, CELLS), Err(16));
     for (number, found) in [(0, Err(16)), (1, Err(19)), (2, Ok(())), (3, Err(16)), (65_538, Err(16)), (u64::MAX, Err(16))] {
-        assert_eq!(ledger.take_out(&o, number, 40, 20), found);
+        assert_eq!(ledger.take_out(&o, number, 2 * CELLS, CELLS), found);
     }
 }
 
 #[test]
 fn refusal_17() {
-    let o = open(1985, &plain(200, 1, 0), 5, 2, 9, 180, 40).unwrap();
+    let o = open(1985, &plain(200, 1, 0), 5, 2, 9, 9 * CELLS, 2 * CELLS).unwrap();
     let mut ledger = Ledger::default();
     for (ms, found) in [(4_999, Err(17)), (5_000, Ok(())), (6_999, Ok(())), (7_000, Err(17))] {
-        assert_eq!(ledger.put(&o, 1985, &plain(200, 1, ms), 180, 40), found);
+        assert_eq!(ledger.put(&o, 1985, &plain(200, 1, ms), 9 * CELLS, 2 * CELLS), found);
     }
     for (second, found) in [(4, 17), (5, 0), (6, 0), (7, 17), (u64::MAX, 17)] {
-        assert_eq!(ledger.ask(&o, second, 180, 40).err().unwrap_or(0), found);
-        assert_eq!(ledger.means(&o, second, 180, 40).err().unwrap_or(0), found);
+        assert_eq!(ledger.ask(&o, second, 9 * CELLS, 2 * CELLS).err().unwrap_or(0), found);
+        assert_eq!(ledger.means(&o, second, 9 * CELLS, 2 * CELLS).err().unwrap_or(0), found);
     }
-    assert_eq!(ledger.ask(&o, 6, 180, 40).unwrap().records, 1);
-    assert_eq!(ledger.ask(&o, 5, 180, 40).unwrap(), SecondTotals::default());
+    assert_eq!(ledger.ask(&o, 6, 9 * CELLS, 2 * CELLS).unwrap().records, 1);
+    assert_eq!(ledger.ask(&o, 5, 9 * CELLS, 2 * CELLS).unwrap(), SecondTotals::default());
 }
 
 #[test]
 fn refusal_18() {
     for rate in EDITION_1985.rates {
         let full = rate.records_a_second;
-        let (rows, seconds) = (20 * 99, 20 * 9);
+        let (rows, seconds) = (CELLS * 99, CELLS * 9);
         let o = open(1985, &plain(rate.hz, 1, 0), 0, 9, 99, rows, seconds).unwrap();
         let mut ledger = Ledger::default();
         for number in 1..=full {
@@ -628,18 +631,18 @@ fn refusal_18() {
 
 #[test]
 fn refusal_19() {
-    let o = open(1985, &case(), 43_200, 1, 2, 40, 20).unwrap();
+    let o = open(1985, &case(), 43_200, 1, 2, 2 * CELLS, CELLS).unwrap();
     let mut ledger = Ledger::default();
-    assert_eq!(ledger.take_out(&o, 1, 40, 20), Err(19));
-    ledger.put(&o, 1985, &case(), 40, 20).unwrap();
-    assert_eq!(ledger.take_out(&o, 2, 40, 20), Err(19));
-    assert_eq!(ledger.take_out(&o, 1, 40, 20), Ok(()));
-    assert_eq!(ledger.take_out(&o, 1, 40, 20), Err(19));
+    assert_eq!(ledger.take_out(&o, 1, 2 * CELLS, CELLS), Err(19));
+    ledger.put(&o, 1985, &case(), 2 * CELLS, CELLS).unwrap();
+    assert_eq!(ledger.take_out(&o, 2, 2 * CELLS, CELLS), Err(19));
+    assert_eq!(ledger.take_out(&o, 1, 2 * CELLS, CELLS), Ok(()));
+    assert_eq!(ledger.take_out(&o, 1, 2 * CELLS, CELLS), Err(19));
 }
 
 #[test]
 fn kept_and_totals_of_a_second() {
-    let o = open(1985, &plain(200, 1, 0), 0, 2, 9, 180, 40).unwrap();
+    let o = open(1985, &plain(200, 1, 0), 0, 2, 9, 9 * CELLS, 2 * CELLS).unwrap();
     let flagged = |number, flags: u8, sample: u8| {
         let mut r = plain(200, number, 0);
         r[0] |= flags;
@@ -649,10 +652,10 @@ fn kept_and_totals_of_a_second() {
     };
     let mut ledger = Ledger::default();
     let mut put = |number, flags, sample| {
-        ledger.put(&o, 1985, &flagged(number, flags, sample), 180, 40).unwrap();
-        ledger.ask(&o, 0, 180, 40).unwrap()
+        ledger.put(&o, 1985, &flagged(number, flags, sample), 9 * CELLS, 2 * CELLS).unwrap();
+        ledger.ask(&o, 0, 9 * CELLS, 2 * CELLS).unwrap()
     };
-    let one = |sum, squares, least, greatest| [Total { sum, squares, least, greatest }; 4];
+    let one = |sum, squares, least, greatest| [Total { sum, squares, least, greatest, clipped: 0 }; 4];
     let a = put(1, 0x80, 100);
     assert_eq!(a, SecondTotals { records: 1, origins: 1, channels: one(10_000, 1_000_000, 100, 100), ..Default::default() });
     let b = put(2, 0x00, 0xFD);
@@ -668,10 +671,41 @@ fn kept_and_totals_of_a_second() {
 }
 
 #[test]
+fn clipped_samples() {
+    assert_eq!(total(&[-128, -127, -126, -1, 0, 1, 125, 126, 127]).clipped, 2);
+    assert_eq!([&[-128i8][..], &[127], &[-127], &[126], &[]].map(|samples| total(samples).clipped), [1, 1, 0, 0, 0]);
+    // Each channel has its own count: of 100 samples one, none though all are beside the ends, two, and all.
+    let made = |number, tag_ms| {
+        let mut r = plain(200, number, tag_ms);
+        for k in 0..100 {
+            let set = [if k == 7 { 0x7F } else { 0x7E }, 0x81, if k < 2 { 0x80 } else { 0 }, [0x7F, 0x80][k % 2]];
+            r[80 + 4 * k..][..4].copy_from_slice(&set);
+        }
+        r
+    };
+    let counts = |channels: [Total; 4]| channels.map(|total| total.clipped);
+    assert_eq!(counts(totals(1985, &made(1, 0)).unwrap()), [1, 0, 2, 100]);
+    let (rows, seconds) = (3 * CELLS, 2 * CELLS);
+    let o = open(1985, &plain(200, 1, 0), 0, 2, 3, rows, seconds).unwrap();
+    let mut ledger = Ledger::default();
+    let mut put = |r: Vec<u8>| {
+        ledger.put(&o, 1985, &r, rows, seconds).unwrap();
+        [0, 1].map(|second| counts(ledger.ask(&o, second, rows, seconds).unwrap().channels))
+    };
+    // The counts of a second's records add up; a record that moves takes its own along, and one that is replaced loses them.
+    assert_eq!(put(made(1, 0)), [[1, 0, 2, 100], [0; 4]]);
+    assert_eq!(put(made(2, 0)), [[2, 0, 4, 200], [0; 4]]);
+    assert_eq!(put(made(2, 1_000)), [[1, 0, 2, 100], [1, 0, 2, 100]]);
+    assert_eq!(put(plain(200, 1, 0)), [[0; 4], [1, 0, 2, 100]]);
+    ledger.take_out(&o, 2, rows, seconds).unwrap();
+    assert_eq!(counts(ledger.ask(&o, 1, rows, seconds).unwrap().channels), [0; 4]);
+}
+
+#[test]
 fn means_of_a_second() {
     let both = |mean, mean_square| Ok([Means { mean, mean_square }; 4]);
     for rate in EDITION_1985.rates {
-        let (rows, seconds) = (180, 40);
+        let (rows, seconds) = (9 * CELLS, 2 * CELLS);
         let o = open(1985, &plain(rate.hz, 1, 0), 0, 2, 9, rows, seconds).unwrap();
         let mut ledger = Ledger::default();
         assert_eq!(ledger.means(&o, 1, rows, seconds), both(0.0, 0.0));
@@ -689,8 +723,8 @@ fn means_of_a_second() {
         }
         assert_eq!(ledger.means(&o, 0, rows, seconds), both(-4.0, 16.0));
         // 13 before 14 before 17.
-        assert_eq!(ledger.means(&Opening { tape: 0, ..o.clone() }, 2, rows, 39), Err(13));
-        assert_eq!(ledger.means(&o, 2, rows, 39), Err(14));
+        assert_eq!(ledger.means(&Opening { tape: 0, ..o.clone() }, 2, rows, seconds - 1), Err(13));
+        assert_eq!(ledger.means(&o, 2, rows, seconds - 1), Err(14));
         assert_eq!(ledger.means(&o, 2, rows, seconds), Err(17));
     }
 }

@@ -9,13 +9,14 @@ pub struct Total {
     pub squares: u64,
     pub least: i8,
     pub greatest: i8,
+    pub clipped: u32,
 }
 
 /// Four bytes a set of samples, of which an accepted record has 100 or more.
 #[inline(never)]
 pub fn totals(record: &[u8]) -> Result<[Total; 4], u8> {
     let count = accept(record)?;
-    let mut totals = [Total { sum: 0, squares: 0, least: i8::MAX, greatest: i8::MIN }; 4];
+    let mut totals = [Total { sum: 0, squares: 0, least: i8::MAX, greatest: i8::MIN, clipped: 0 }; 4];
     for set in record[HEADER..HEADER + 4 * count].chunks_exact(4) {
         for (total, &byte) in totals.iter_mut().zip(set) {
             let sample = byte as i8;
@@ -23,6 +24,7 @@ pub fn totals(record: &[u8]) -> Result<[Total; 4], u8> {
             total.squares += (i64::from(sample) * i64::from(sample)) as u64;
             total.least = total.least.min(sample);
             total.greatest = total.greatest.max(sample);
+            total.clipped += u32::from(sample == i8::MIN || sample == i8::MAX);
         }
     }
     Ok(totals)

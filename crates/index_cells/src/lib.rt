@@ -8,6 +8,7 @@ ghost use lib.ListN.{length};
 ghost use Rattle.index_model.specs.Cells.{width, cellLimit, cell, blockAt, isGreatest, merge, merged, rowWithin, secondFrom};
 ghost use Rattle.index_cells.specs.Blocks.{blockOrNone, blockPut};
 use index_model::CELL_LIMIT;
+use index_model::CHANNEL_WIDTH;
 use index_model::WIDTH;
 
 // The cells before those of the channels: records (1 in a row that is held), records with clock origin 1, records with copy
@@ -88,7 +89,7 @@ pub fn put_block(cells: &mut [u32], i: u64, block: [u32; WIDTH])
 fn is_greatest(j: usize) -> bool
     ensures { λ r. ⌜ r ≡ isGreatest j ⌝ }
 {
-    (j % 4 > 1) & (j != 2)
+    j % CHANNEL_WIDTH > 2
 }
 
 // Cell j of a second and of a row, merged.

@@ -1,5 +1,6 @@
--- A channel's samples as the numbers in cells: the sum with the offset of each sample, the sum of squares, the offset less the
--- least, the greatest plus its offset; and that the cells decode to the channel's total. Assumes nothing.
+-- A channel's samples as the numbers in cells: the offset less the least, the sum with the offset of each sample, the sum of
+-- squares, the count of clipped ones, the greatest plus its offset; and that the cells decode to the channel's total. Assumes
+-- nothing.
 use Prim.Native.Nat.{ℕ, suc, _+_, _-_, _*_, _%_, _<_, _≤_, max}
 use mathlib.Core.Path.{_≡_, refl, ap, sym, _∙_}
 use mathlib.Core.List.{List, [], _∷_, _++_, foldl}
@@ -13,7 +14,7 @@ use mir.Val.{SFits}
 use Rattle.lists.proofs.Order.{le-or-lt}
 use Rattle.channels.specs.Sample.{signedOf}
 use Rattle.channels.proofs.Sign.{signed-low, signed-high}
-use Rattle.totals.specs.Total.{sumOf, squaresOf, lesser, greater, keptOf, leastOf, greatestOf, totalOf}
+use Rattle.totals.specs.Total.{sumOf, squaresOf, lesser, greater, keptOf, leastOf, greatestOf, clippedOf, totalOf}
 use Rattle.totals.proofs.Samples.{Bytes}
 use Rattle.index_model.specs.Cells.{sampleOffset, greatestOffset, natOf, channelCells}
 use Rattle.index_model.specs.Calls.{leastFrom, greatestFrom}
@@ -138,14 +139,14 @@ greatest-coding =
       most = λ x h. omega (arith, offset-small x h);
     }
 
--- ## the four cells of a channel are the codes of its samples
+-- ## the cells of a channel are the codes of its samples
 
 abbrev pub codes : List ℤ → List ℕ
-codes l = sumCode l ∷ squaresOf l ∷ topCode leastCode l ∷ topCode greatestCode l ∷ []
+codes l = topCode leastCode l ∷ sumCode l ∷ squaresOf l ∷ clippedOf l ∷ topCode greatestCode l ∷ []
 
 pub cells-codes : (l : List ℤ) → Bytes l → (n : ℕ) → length l ≡ n → 0 < n → channelCells n (totalOf l) ≡ codes l
 unfolding totalOf
-cells-codes l bytes n e p = λ t. sum-cell t ∷ squaresOf l ∷ least-cell t ∷ greatest-cell t ∷ []
+cells-codes l bytes n e p = λ t. least-cell t ∷ sum-cell t ∷ squaresOf l ∷ clippedOf l ∷ greatest-cell t ∷ []
   where
     sum-cell : natOf (sumOf l +ℤ pos (sampleOffset * n)) ≡ sumCode l
     sum-cell =

@@ -5,14 +5,14 @@ use mathlib.Core.Bool.{Bool, true, false, cond}
 use mathlib.Core.List.{List, [], _∷_, _++_, flatMap, append-assoc, append-nil}
 use mathlib.Core.Option.{Option, none, some}
 use native.Mathlib.Omega.{arith}
-use lib.Dec.{eqb, ltb}
+use lib.Dec.{eqb}
 use lib.IntN.{ℤ}
 use lib.ListN.{getD, length, length-append}
-use Rattle.totals.specs.Total.{squaresOf}
-use Rattle.totals.proofs.Sums.{squares-append}
+use Rattle.totals.specs.Total.{squaresOf, clippedOf}
+use Rattle.totals.proofs.Sums.{squares-append, clipped-append}
 use Rattle.index_model.specs.declared.Opening.{Opening}
 use Rattle.index_model.specs.Records.{Record, secondOf, hasOrigin, hasError, channelSamples}
-use Rattle.index_model.specs.Cells.{channelCell, rowOf, flag, isGreatest}
+use Rattle.index_model.specs.Cells.{channelWidth, channelCell, rowOf, flag, isGreatest}
 use Rattle.index_model.specs.Ledger.{Ledger, recordIn, recordsOf, countOf}
 use Rattle.index_model.proofs.Merges.{plainBy, plain-sum}
 use Rattle.index_model.proofs.Rows.{row-records, row-origin, row-error, channel-kind}
@@ -90,9 +90,9 @@ unfolding flatMap
 flat-one f b = append-nil (f b)
 
 module _ (o : Opening) (c : ℕ) (p : 1 ≤ c) (q : c ≤ 4) where
-  -- a code of samples that cell i of the channel's four holds
-  measures-code : (i : ℕ) → i < 4 → (code : List ℤ → ℕ) → code [] ≡ 0
-      → ((l k : List ℤ) → code (l ++ k) ≡ plainBy (ltb 1 i) (code l) (code k)) → ((l : List ℤ) → getD (codes l) i 0 ≡ code l)
+  -- a code of samples that cell i of the channel holds
+  measures-code : (i : ℕ) → i < channelWidth → (code : List ℤ → ℕ) → code [] ≡ 0
+      → ((l k : List ℤ) → code (l ++ k) ≡ plainBy (isGreatest (channelCell 1 i)) (code l) (code k)) → ((l : List ℤ) → getD (codes l) i 0 ≡ code l)
       → Measures o (channelCell c i) (λ (r : List Record). code (flatMap (channelSamples c) r))
   unfolding flatMap
   measures-code i h code zeroes joined is =
@@ -102,25 +102,29 @@ module _ (o : Opening) (c : ℕ) (p : 1 ≤ c) (q : c ≤ 4) where
             λ r t.
             ap code (flat-append (channelSamples c) r t)
             ∙ joined (flatMap (channelSamples c) r) (flatMap (channelSamples c) t)
-            ∙ sym (λ k. plainBy (channel-kind c i p h k) (code (flatMap (channelSamples c) r))
+            ∙ sym (λ k. plainBy (channel-kind c i k) (code (flatMap (channelSamples c) r))
             (code (flatMap (channelSamples c) t)));
         single =
             λ b s. row-codes b (s .accepted) c i p q h ∙ is (channelSamples c b) ∙ ap code (sym (flat-one (channelSamples c) b));
       }
 
-  pub measures-sum : Measures o (channelCell c 0) (λ (r : List Record). sumCode (flatMap (channelSamples c) r))
-  unfolding plainBy sumCode
-  measures-sum = measures-code 0 (omega arith) sumCode refl sum-code-append (λ l. refl)
+  pub measures-least : Measures o (channelCell c 0) (λ (r : List Record). topCode leastCode (flatMap (channelSamples c) r))
+  unfolding plainBy isGreatest topCode
+  measures-least = measures-code 0 (omega arith) (topCode leastCode) refl (top-append leastCode) (λ l. refl)
 
-  pub measures-squares : Measures o (channelCell c 1) (λ (r : List Record). squaresOf (flatMap (channelSamples c) r))
-  unfolding plainBy squaresOf
-  measures-squares = measures-code 1 (omega arith) squaresOf refl squares-append (λ l. refl)
+  pub measures-sum : Measures o (channelCell c 1) (λ (r : List Record). sumCode (flatMap (channelSamples c) r))
+  unfolding plainBy isGreatest sumCode
+  measures-sum = measures-code 1 (omega arith) sumCode refl sum-code-append (λ l. refl)
 
-  pub measures-least : Measures o (channelCell c 2) (λ (r : List Record). topCode leastCode (flatMap (channelSamples c) r))
-  unfolding plainBy topCode
-  measures-least = measures-code 2 (omega arith) (topCode leastCode) refl (top-append leastCode) (λ l. refl)
+  pub measures-squares : Measures o (channelCell c 2) (λ (r : List Record). squaresOf (flatMap (channelSamples c) r))
+  unfolding plainBy isGreatest squaresOf
+  measures-squares = measures-code 2 (omega arith) squaresOf refl squares-append (λ l. refl)
 
-  pub measures-greatest : Measures o (channelCell c 3)
+  pub measures-clipped : Measures o (channelCell c 3) (λ (r : List Record). clippedOf (flatMap (channelSamples c) r))
+  unfolding plainBy isGreatest clippedOf
+  measures-clipped = measures-code 3 (omega arith) clippedOf refl clipped-append (λ l. refl)
+
+  pub measures-greatest : Measures o (channelCell c 4)
       (λ (r : List Record). topCode greatestCode (flatMap (channelSamples c) r))
-  unfolding plainBy topCode
-  measures-greatest = measures-code 3 (omega arith) (topCode greatestCode) refl (top-append greatestCode) (λ l. refl)
+  unfolding plainBy isGreatest topCode
+  measures-greatest = measures-code 4 (omega arith) (topCode greatestCode) refl (top-append greatestCode) (λ l. refl)

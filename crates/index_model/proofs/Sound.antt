@@ -1,5 +1,5 @@
 -- What is known of a record that the index holds, of its samples and of its row. Assumes nothing.
-use Prim.Native.Nat.{ℕ, zero, suc, _+_, _*_, _/_, _%_, _<_, _≤_}
+use Prim.Native.Nat.{ℕ, zero, suc, _+_, _-_, _*_, _/_, _%_, _<_, _≤_}
 use mathlib.Core.Path.{_≡_, ap, _∙_, subst}
 use mathlib.Core.Bool.{Bool, true, false}
 use mathlib.Core.List.{List}
@@ -17,11 +17,11 @@ use Rattle.record.proofs.Count.{count-small}
 use Rattle.record.proofs.Accepted.{record-facts, stretch-inside}
 use Rattle.totals.specs.Total.{totalOf}
 use Rattle.totals.proofs.Samples.{Bytes, samples-bytes}
-use Rattle.totals.proofs.Sums.{squares-bound}
+use Rattle.totals.proofs.Sums.{squares-bound, clipped-bound}
 use Rattle.index_model.specs.declared.Opening.{Opening}
 use Rattle.index_model.specs.Records.{secondIn, rateIn, countIn, refusalOf, stretchIn, Record, secondOf, hasOrigin, hasError, channelSamples}
 use Rattle.record.specs.Stretch.{recordRate, stretchOf}
-use Rattle.index_model.specs.Cells.{width, channelCell, samplesIn, channelCells, flag, rowOf}
+use Rattle.index_model.specs.Cells.{width, headWidth, channelWidth, channelCell, samplesIn, channelCells, flag, rowOf}
 use Rattle.index_model.specs.Opening.{heldRate, inWindow}
 use Rattle.index_model.specs.Ledger.{Ledger}
 use Rattle.index_model.proofs.Rows.{row-length, row-records, row-origin, row-error, row-second, row-channel}
@@ -73,8 +73,9 @@ module _ (b : Record) (accepted : refusalOf b ≡ 0) where
   unfolding stretchOf recordRate
   held-all = simp (length-take, length-drop) (omega (arith, stretch-inside (b .edition) (b .bytes) accepted))
 
-  -- the four cells of a channel (1 to 4)
-  pub row-codes : (c i : ℕ) → 1 ≤ c → c ≤ 4 → i < 4 → getD (rowOf b) (channelCell c i) 0 ≡ getD (codes (channelSamples c b)) i 0
+  -- the cells of a channel (1 to 4)
+  pub row-codes : (c i : ℕ) → 1 ≤ c → c ≤ 4 → i < channelWidth
+      → getD (rowOf b) (channelCell c i) 0 ≡ getD (codes (channelSamples c b)) i 0
   unfolding channelSamples
   row-codes c i p q r =
       row-channel b c i p q r
@@ -82,16 +83,18 @@ module _ (b : Record) (accepted : refusalOf b ≡ 0) where
       ∙ ap (λ (l : List ℕ). getD l i 0)
       (cells-codes (channelSamples c b) (samples-signed b c) (countIn b) (samples-length b c) count-some)
 
-  codes-small : (c i : ℕ) → i < 4 → getD (codes (channelSamples c b)) i 0 ≤ rowLimit
-  codes-small c zero r =
-      omega (arith, sum-code-small (channelSamples c b) (samples-signed b c), samples-length b c, count-small (b .edition) (b .bytes))
+  codes-small : (c i : ℕ) → i < channelWidth → getD (codes (channelSamples c b)) i 0 ≤ rowLimit
+  codes-small c zero r = omega (arith, top-most least-coding (channelSamples c b) (samples-signed b c))
   codes-small c (suc zero) r =
+      omega (arith, sum-code-small (channelSamples c b) (samples-signed b c), samples-length b c, count-small (b .edition) (b .bytes))
+  codes-small c (suc (suc zero)) r =
       omega (arith, squares-bound (channelSamples c b) (samples-signed b c), samples-length b c, count-small (b .edition) (b .bytes))
-  codes-small c (suc (suc zero)) r = omega (arith, top-most least-coding (channelSamples c b) (samples-signed b c))
-  codes-small c (suc (suc (suc zero))) r = omega (arith, top-most greatest-coding (channelSamples c b) (samples-signed b c))
-  codes-small c (suc (suc (suc (suc i)))) r = absurd (let z : ⊥ = omega arith in z)
+  codes-small c (suc (suc (suc zero))) r =
+      omega (arith, clipped-bound (channelSamples c b), samples-length b c, count-small (b .edition) (b .bytes))
+  codes-small c (suc (suc (suc (suc zero)))) r = omega (arith, top-most greatest-coding (channelSamples c b) (samples-signed b c))
+  codes-small c (suc (suc (suc (suc (suc i))))) r = absurd (let z : ⊥ = omega arith in z)
 
-  first-small : (j : ℕ) → j < 4 → getD (rowOf b) j 0 ≤ rowLimit
+  first-small : (j : ℕ) → j < headWidth → getD (rowOf b) j 0 ≤ rowLimit
   unfolding secondIn
   first-small zero h = omega (arith, row-records b)
   first-small (suc zero) h = omega (arith, row-origin b, flag-small (hasOrigin b))
@@ -103,19 +106,21 @@ module _ (b : Record) (accepted : refusalOf b ≡ 0) where
   pub row-small : (j : ℕ) → getD (rowOf b) j 0 ≤ rowLimit
   row-small j =
       ⊎-elim (λ h. omega (arith, List·getD-eq-default (rowOf b) 0 {n = j} (omega (arith, row-length b))))
-      (λ h. ⊎-elim (λ k. later k h) (λ k. first-small j k) (le-or-lt 4 j)) (le-or-lt width j)
+      (λ h. ⊎-elim (λ k. later k h) (λ k. first-small j k) (le-or-lt headWidth j)) (le-or-lt width j)
     where
-      parts : 4 * (j / 4) + j % 4 ≡ j
-      parts = omega arith
+      channel : ℕ
+      channel = (j - headWidth) / channelWidth + 1
 
-      later : 4 ≤ j → j < width → getD (rowOf b) j 0 ≤ rowLimit
+      place : ℕ
+      place = (j - headWidth) % channelWidth
+
+      later : headWidth ≤ j → j < width → getD (rowOf b) j 0 ≤ rowLimit
       later k h =
-          subst (λ (a : ℕ). getD (rowOf b) a 0 ≤ rowLimit) parts
+          subst (λ (a : ℕ). getD (rowOf b) a 0 ≤ rowLimit) (let z : channelCell channel place ≡ j = omega arith in z)
           (omega (
             arith,
-            row-codes (j / 4) (j % 4) (omega arith) (omega arith) (omega arith),
-            codes-small (j / 4) (j % 4)
-                (omega arith),
+            row-codes channel place (omega arith) (omega arith) (omega arith),
+            codes-small channel place (omega arith),
           ))
 
 pub small-rows : {o : Opening} {L : Ledger} → SoundLedger o L → SmallRows L

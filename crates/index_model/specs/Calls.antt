@@ -115,10 +115,11 @@ greatestFrom x = signedOf ((x + (256 - greatestOffset)) % 256)
 abbrev pub channelShown : ℕ → List ℕ → ℕ → Total
 channelShown n second channel =
     record {
-      sum = pos (getD second (channelCell channel 0) 0) -ℤ pos (sampleOffset * n);
-      squares = getD second (channelCell channel 1) 0;
-      least = leastFrom (getD second (channelCell channel 2) 0);
-      greatest = greatestFrom (getD second (channelCell channel 3) 0);
+      sum = pos (getD second (channelCell channel 1) 0) -ℤ pos (sampleOffset * n);
+      squares = getD second (channelCell channel 2) 0;
+      least = leastFrom (getD second (channelCell channel 0) 0);
+      greatest = greatestFrom (getD second (channelCell channel 4) 0);
+      clipped = getD second (channelCell channel 3) 0;
     }
 
 -- a second of no records has 0 throughout

@@ -2,11 +2,11 @@
 -- seconds". A row and a second have the same cells, and each cell of a second is the sum, or the greatest, of that cell over
 -- the rows of its records; no rows give 0. Sums are modulo 2^32, since a cell has 32 bits.
 --
---   0 records, 1 in a row               4c, 4c + 1  channel c (1 to 4): sum of (sample + 128), sum of squares
---   1 records with clock origin 1       4c + 2      128 less the least sample
---   2 records with copy error 1         4c + 3      the greatest sample plus 129
---   3 the second
-use Prim.Native.Nat.{ℕ, zero, suc, _+_, _*_, _/_, _%_, max}
+--   0 records, 1 in a row               5c - 1      channel c (1 to 4): 128 less the least sample
+--   1 records with clock origin 1       5c, 5c + 1  sum of (sample + 128), sum of squares
+--   2 records with copy error 1         5c + 2      clipped samples
+--   3 the second                        5c + 3      the greatest sample plus 129
+use Prim.Native.Nat.{ℕ, zero, suc, _+_, _-_, _*_, _/_, _%_, max}
 use mathlib.Core.Bool.{Bool, true, false, cond, not, _&&_}
 use mathlib.Core.List.{List, [], _∷_, _++_}
 use lib.Dec.{eqb, ltb}
@@ -19,11 +19,18 @@ use Rattle.index_model.specs.Records.{Record, secondOf, hasOrigin, hasEr
 
 -- cells in a row, and in a second
 abbrev pub width : ℕ
-width = 20
+width = 24
 
--- cell j (0 to 3) of channel c (1 to 4)
+-- of them those before the channels', and then those of each channel
+abbrev pub headWidth : ℕ
+headWidth = 4
+
+abbrev pub channelWidth : ℕ
+channelWidth = 5
+
+-- cell j (0 to 4) of channel c (1 to 4)
 abbrev pub channelCell : ℕ → ℕ → ℕ
-channelCell c j = 4 * c + j
+channelCell c j = headWidth + channelWidth * (c - 1) + j
 
 -- a cell is less than this
 abbrev pub cellLimit : ℕ
@@ -54,10 +61,10 @@ sampleOffset = 128
 abbrev pub greatestOffset : ℕ
 greatestOffset = sampleOffset + 1
 
--- the four cells of a channel's total over n samples
+-- the cells of a channel's total over n samples
 abbrev pub channelCells : ℕ → Total → List ℕ
 channelCells n t =
-    natOf (t .sum +ℤ pos (sampleOffset * n)) ∷ t .squares ∷ natOf (pos sampleOffset -ℤ t .least)
+    natOf (pos sampleOffset -ℤ t .least) ∷ natOf (t .sum +ℤ pos (sampleOffset * n)) ∷ t .squares ∷ t .clipped
     ∷ natOf (t .greatest +ℤ pos greatestOffset) ∷ []
 
 abbrev pub allChannelCells : ℕ → List Total → List ℕ
@@ -84,9 +91,10 @@ noRow = tab (λ (j : ℕ). 0) 0 width
 
 -- ## the cells of a second
 
--- cell j holds the greatest: the third and the fourth of every four cells, but not cell 2, a count; the other cells are sums
+-- of every five cells from cell 0 on the first three are sums, and the other two hold the greatest: the second, and a channel's
+-- first and last
 unfoldable pub isGreatest : ℕ → Bool
-isGreatest j = ltb 1 (j % 4) && not (eqb j 2)
+isGreatest j = ltb 2 (j % channelWidth)
 
 unfoldable pub mergeBy : Bool → ℕ → ℕ → ℕ
 mergeBy true a b = max a b

@@ -1,5 +1,5 @@
 -- A second's totals and verdict, as a question about it answers: records, records with clock origin 1, records with copy error 1,
--- and for each channel sum, sum of squares, least and greatest over all samples. FORMAT, "The index of seconds".
+-- and for each channel sum, sum of squares, least, greatest and clipped samples over all samples. FORMAT, "The index of seconds".
 use Prim.Native.Nat.{ℕ}
 use mathlib.Core.Bool.{Bool, false}
 use mathlib.Core.List.{List, [], _∷_}

@@ -3,7 +3,12 @@
 // definitions and share these numbers.
 
 // The cells of a row, and of a second.
-pub const WIDTH: usize = 20;
+pub const WIDTH: usize = 24;
+
+// Of them those before the channels', and then those of each channel.
+pub const HEAD_WIDTH: usize = 4;
+
+pub const CHANNEL_WIDTH: usize = 5;
 
 // A cell is less than this.
 pub const CELL_LIMIT: u64 = 4_294_967_296;

@@ -11,7 +11,7 @@ ghost use Rattle.floats.specs.Whole.{exactLimit};
 ghost use Rattle.sample_rates.specs.Rates.{samplesPerRecord};
 ghost use Rattle.answers.specs.Answer.{accepted, refused};
 ghost use Rattle.index_model.specs.Second.{noSecond};
-ghost use Rattle.index_model.specs.Cells.{width, channelCell, sampleOffset};
+ghost use Rattle.index_model.specs.Cells.{width, channelWidth, channelCell, sampleOffset};
 ghost use Rattle.index_model.specs.Buffers.{lent};
 ghost use Rattle.index_model.specs.Limits.{WithinLimits};
 ghost use Rattle.index_model.specs.Opening.{heldRate, inWindow};
@@ -23,10 +23,13 @@ use index_cells::ERRORS;
 use index_cells::ORIGINS;
 use index_cells::RECORDS;
 use index_cells::SECOND;
+use index_model::CHANNEL_WIDTH;
 use index_model::GREATEST_OFFSET;
+use index_model::HEAD_WIDTH;
 use index_model::Opening;
 use index_model::SAMPLE_OFFSET;
 use index_model::WIDTH;
+use totals::NO_TOTAL;
 use totals::Total;
 
 // A second's totals and verdict, beside the refusal. An enum cannot hold an array, so the refusal is a field; with one, every
@@ -69,12 +72,12 @@ fn sum_from(x: u32, count: u64) -> i64
     (x as i64) - ((SAMPLE_OFFSET * count) as i64)
 }
 
-// Cell j (0 to 3) of a channel (1 to 4).
+// Cell j (0 to 4) of a channel (1 to 4).
 fn channel_cell(cells: [u32; WIDTH], channel: usize, j: usize) -> u32
-    requires { ⌜ (channel ≤ 4) × (j < 4) ⌝ }
+    requires { ⌜ (1 ≤ channel) × (channel ≤ 4) × (j < channelWidth) ⌝ }
     ensures { λ r. ⌜ r ≡ getD cells (channelCell channel j) 0 ⌝ }
 {
-    cells[4 * channel + j]
+    cells[HEAD_WIDTH + CHANNEL_WIDTH * (channel - 1) + j]
 }
 
 // The total of a channel (1 to 4) from the cells of a second that has so many samples of it.
@@ -83,18 +86,14 @@ fn total_from(cells: [u32; WIDTH], count: u64, channel: usize) -> Total
     ensures { λ r. ⌜ (r ≡ totalFrom count cells channel) × ExactTotal r ⌝ }
 {
     if cells[RECORDS] == 0 {
-        return Total {
-            sum: 0,
-            squares: 0,
-            least: 0,
-            greatest: 0,
-        };
+        return NO_TOTAL;
     }
     Total {
-        sum: sum_from(channel_cell(cells, channel, 0), count),
-        squares: index_cells::wide(channel_cell(cells, channel, 1)),
-        least: least_from(channel_cell(cells, channel, 2)),
-        greatest: greatest_from(channel_cell(cells, channel, 3)),
+        sum: sum_from(channel_cell(cells, channel, 1), count),
+        squares: index_cells::wide(channel_cell(cells, channel, 2)),
+        least: least_from(channel_cell(cells, channel, 0)),
+        greatest: greatest_from(channel_cell(cells, channel, 4)),
+        clipped: channel_cell(cells, channel, 3),
     }
 }
 
@@ -147,18 +146,12 @@ fn no_second(refusal: u8) -> SecondAnswer
     requires { ⌜ 1 ≤ refusal ⌝ }
     ensures { λ r. ⌜ (shownSecond r ≡ refused noSecond refusal) × ExactTotals (r .channels) ⌝ }
 {
-    let none = Total {
-        sum: 0,
-        squares: 0,
-        least: 0,
-        greatest: 0,
-    };
     SecondAnswer {
         refusal,
         records: 0,
         origins: 0,
         errors: 0,
-        channels: [none; 4],
+        channels: [NO_TOTAL; 4],
         kept: false,
     }
 }

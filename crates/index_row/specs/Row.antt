@@ -10,7 +10,7 @@ use Rattle.index_row.specs.declared.ChannelCells.{ChannelCells}
 
 -- the cells of a channel as a list
 abbrev pub cellList : ChannelCells → List ℕ
-cellList c = c .sum ∷ c .squares ∷ c .least ∷ c .greatest ∷ []
+cellList c = c .least ∷ c .sum ∷ c .squares ∷ c .clipped ∷ c .greatest ∷ []
 
 -- the total of n samples, no more than a record has
 pub record Bounded (n : ℕ) (t : Total) : Type 0 where

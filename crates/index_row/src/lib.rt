@@ -16,11 +16,12 @@ use index_model::SECOND_MS;
 use index_model::WIDTH;
 use totals::Total;
 
-// The four cells of a channel, each with its offset.
+// The cells of a channel, each with its offset.
 struct ChannelCells {
+    least: u32,
     sum: u32,
     squares: u32,
-    least: u32,
+    clipped: u32,
     greatest: u32,
 }
 
@@ -62,6 +63,7 @@ fn channel_cells(totals: [Total; 4], channel: usize, count: usize) -> ChannelCel
     ChannelCells {
         sum,
         squares,
+        clipped: total.clipped,
         least,
         greatest,
     }
@@ -84,21 +86,25 @@ fn row_from(
         origin,
         error,
         second,
+        one.least,
         one.sum,
         one.squares,
-        one.least,
+        one.clipped,
         one.greatest,
+        two.least,
         two.sum,
         two.squares,
-        two.least,
+        two.clipped,
         two.greatest,
+        three.least,
         three.sum,
         three.squares,
-        three.least,
+        three.clipped,
         three.greatest,
+        four.least,
         four.sum,
         four.squares,
-        four.least,
+        four.clipped,
         four.greatest,
     ]
 }

@@ -1,15 +1,17 @@
 -- Signed numbers: their size, their squares, and how the code's bits show them. Assumes nothing.
 use mathlib.Core.Path.{_≡_, refl, sym, ap, _∙_, subst}
-use mathlib.Core.Bool.{Bool, true, false, cond}
+use mathlib.Core.Bool.{Bool, true, false, cond, _||_}
 use Prim.Native.Nat.{ℕ, suc, _+_, _-_, _*_, _≤_, _<_}
 use native.Mathlib.Nat.{mul-le-mul}
 use native.Mathlib.Omega.{arith}
 use lib.IntN.{ℤ, pos, negsuc, natAbs, subℕ, _+ℤ_, _*ℤ_}
 use lib.Signed.{mag, ltZ}
-use lib.Dec.{T, ltb, ltb→lt}
+use lib.Dec.{T, ltb, eqb, ltb→lt}
 use mir.Syntax.{Width, w8, w64}
 use mir.Val.{SFits, toZ, ofZ}
-use mir.Facts.{toZ-ofZ}
+use mir.Facts.{toZ-ofZ, sfits-lit}
+use borrow.Author.Tests.{eqb-true, eqb-false, eq-eqb, ne-eqb}
+use Rattle.totals.specs.Total.{isSame, isClipped}
 
 pub mag≤abs : (z : ℤ) → mag z ≤ natAbs z
 mag≤abs (pos n) = omega arith
@@ -59,3 +61,21 @@ tested {a} {b} ha hb e = rw (toZ-ofZ ha, toZ-ofZ hb) at e
 pub picked : {a b z : ℤ} {t : Bool} → SFits w8 a → SFits w8 b → SFits w8 z → ltZ (toZ w8 (ofZ w8 a)) (toZ w8 (ofZ w8 b)) ≡ t
     → (x y : ℤ) → z ≡ cond t x y → toZ w8 (ofZ w8 z) ≡ cond (ltZ a b) x y
 picked fa fb fz e x y q = toZ-ofZ fz ∙ q ∙ sym (ap (λ (s : Bool). cond s x y) (tested fa fb e))
+
+-- bytes have the same bits where they are the same number
+same-bits : (a b : ℤ) → SFits w8 a → SFits w8 b → eqb (ofZ w8 a) (ofZ w8 b) ≡ isSame a b
+unfolding isSame
+same-bits (pos a) (pos b) f g = refl
+same-bits (pos a) (negsuc b) f g = ne-eqb a (256 - suc b) (λ e. omega (arith, f .sfits, g .sfits, e))
+same-bits (negsuc a) (pos b) f g = ne-eqb (256 - suc a) b (λ e. omega (arith, f .sfits, g .sfits, e))
+same-bits (negsuc a) (negsuc b) f g = by-test (eqb a b) refl
+  where
+    by-test : (t : Bool) → eqb a b ≡ t → eqb (256 - suc a) (256 - suc b) ≡ t
+    by-test true e = eq-eqb (256 - suc a) (256 - suc b) (omega (arith, eqb-true a b e))
+    by-test false e =
+        ne-eqb (256 - suc a) (256 - suc b) (λ z. eqb-false a b e (omega (arith, f .sfits, g .sfits, z)))
+
+-- the code's test for a clipped sample
+pub clipped-bits : {x : ℤ} → SFits w8 x → eqb (ofZ w8 x) 128 || eqb (ofZ w8 x) 127 ≡ isClipped x
+unfolding isClipped
+clipped-bits {x} f = λ i. same-bits x (negsuc 127) f (sfits-lit tt) i || same-bits x (pos 127) f (sfits-lit tt) i

@@ -12,22 +12,23 @@ use mir.Val.{SFits}
 use Rattle.lists.proofs.Fill.{length-tab}
 use Rattle.totals.specs.declared.Total.{Total}
 use Rattle.channels.specs.Sample.{sampleOf, samplesOf}
-use Rattle.totals.specs.Total.{sumOf, squaresOf, lesser, greater, keptOf, totalOf, totalsOf, countLimit}
+use Rattle.totals.specs.Total.{sumOf, squaresOf, lesser, greater, keptOf, clippedOne, clippedOf, totalOf, totalsOf, countLimit}
 use Rattle.totals.specs.Running.{nextOf, Room, runningOf, runningsOf, totalAt, channelNext}
 use Rattle.totals.proofs.Bits.{mag≤abs, abs-sum, byte-abs}
 use Rattle.totals.proofs.Samples.{Bytes, bytes-append, samples-bytes, samples-more}
-use Rattle.totals.proofs.Sums.{sum-append, squares-append, sum-bound, squares-bound}
+use Rattle.totals.proofs.Sums.{sum-append, squares-append, clipped-append, sum-bound, squares-bound, clipped-bound}
 use Rattle.totals.proofs.Extremes.{lesser-start, greater-start}
 
 -- one sample more, at the end of the list
 pub running-more : (l : List ℤ) (x : ℤ) → runningOf (l ++ x ∷ []) ≡ nextOf (runningOf l) x
-unfolding runningOf nextOf sumOf squaresOf
+unfolding runningOf nextOf sumOf squaresOf clippedOf
 running-more l x i =
     record {
       sum = (sum-append l (x ∷ []) ∙ ap (λ (z : ℤ). sumOf l +ℤ z) (+ℤ-idr x)) i;
       squares = (squares-append l (x ∷ []) ∙ ap (λ (n : ℕ). squaresOf l + n) (add-zero (natAbs x * natAbs x))) i;
       least = foldl-append lesser (pos 127) l (x ∷ []) i;
       greatest = foldl-append greater (negsuc 127) l (x ∷ []) i;
+      clipped = (clipped-append l (x ∷ []) ∙ ap (λ (n : ℕ). clippedOf l + n) (add-zero (clippedOne x))) i;
     }
 
 -- the first sample replaces the start
@@ -40,6 +41,7 @@ running-total (x ∷ l) h p =
       squares = squaresOf (x ∷ l);
       least = foldl lesser (lesser-start x (h .0) i) l;
       greatest = foldl greater (greater-start x (h .0) i) l;
+      clipped = clippedOf (x ∷ l);
     }
 
 -- the same of the total itself, from the second sample on
@@ -56,9 +58,14 @@ room-fits {t} h = record { sfits = omega (arith, h .sums, mag≤abs (t .sum)) }
 pub room-sum : {t : Total} {x : ℤ} → Room t → SFits w8 x → SFits w64 (t .sum +ℤ x)
 room-sum {t} {x} h f = record { sfits = omega (arith, h .sums, mag≤abs (t .sum +ℤ x), abs-sum (t .sum) x, byte-abs f) }
 
-pub running-room : (l : List ℤ) → Bytes l → length l ≤ countLimit → Room (runningOf l)
+pub running-room : (l : List ℤ) → Bytes l → length l < countLimit → Room (runningOf l)
 unfolding runningOf
-running-room l h n = record { sums = omega (arith, sum-bound l h); squared = omega (arith, squares-bound l h) }
+running-room l h n =
+    record {
+      sums = omega (arith, sum-bound l h);
+      squared = omega (arith, squares-bound l h);
+      counted = omega (arith, clipped-bound l);
+    }
 
 -- a channel's next total, for its sample k
 channel-more : (s : List ℕ) (c k : ℕ) → nextOf (runningOf (samplesOf s c k)) (sampleOf s c k) ≡ runningOf (samplesOf s c (k + 1))

@@ -7,7 +7,7 @@ use lib.ListN.{getD, set}
 use Rattle.lists.specs.Fill.{tab}
 use Rattle.totals.specs.declared.Total.{Total}
 use Rattle.channels.specs.Sample.{sampleOf, samplesOf}
-use Rattle.totals.specs.Total.{sumOf, squaresOf, lesser, greater, noTotal}
+use Rattle.totals.specs.Total.{sumOf, squaresOf, lesser, greater, clippedOne, clippedOf, noTotal, countLimit}
 
 -- the total with one sample more
 unfoldable pub nextOf : Total → ℤ → Total
@@ -17,6 +17,7 @@ nextOf total sample =
       squares = total .squares + natAbs sample * natAbs sample;
       least = lesser (total .least) sample;
       greatest = greater (total .greatest) sample;
+      clipped = total .clipped + clippedOne sample;
     }
 
 -- a total whose sums are far from the ends of their widths, so that one sample more fits
@@ -26,6 +27,7 @@ roomLimit = 2 ^ 62
 pub record Room (total : Total) : Type 0 where
   pub sums : natAbs (total .sum) < roomLimit
   pub squared : total .squares < roomLimit
+  pub counted : total .clipped < countLimit
 
 -- the running total: it starts from least 127 and greatest -128, so that the first sample becomes both
 unfoldable pub runningOf : List ℤ → Total
@@ -35,6 +37,7 @@ runningOf samples =
       squares = squaresOf samples;
       least = foldl lesser (pos 127) samples;
       greatest = foldl greater (negsuc 127) samples;
+      clipped = clippedOf samples;
     }
 
 -- the running totals of channels 1 to 4 over the first n samples of each

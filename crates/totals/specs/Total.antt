@@ -1,8 +1,9 @@
 -- A channel's total over its samples, and the four channels' totals. FORMAT, "Samples", "The index of seconds".
 use Prim.Native.Nat.{ℕ, _+_, _*_, _/_, min}
-use mathlib.Core.Bool.{cond}
+use mathlib.Core.Bool.{Bool, false, cond, _||_}
 use mathlib.Core.List.{List, [], _∷_, foldl}
-use lib.IntN.{ℤ, pos, natAbs, _+ℤ_}
+use lib.Dec.{eqb}
+use lib.IntN.{ℤ, pos, negsuc, natAbs, _+ℤ_}
 use lib.ListN.{length}
 use lib.Signed.{ltZ}
 use Rattle.lists.specs.Fill.{tab}
@@ -35,13 +36,38 @@ leastOf samples = keptOf lesser samples
 abbrev pub greatestOf : List ℤ → ℤ
 greatestOf samples = keptOf greater samples
 
+-- two whole numbers are the same
+unfoldable pub isSame : ℤ → ℤ → Bool
+isSame (pos a) (pos b) = eqb a b
+isSame (pos a) (negsuc b) = false
+isSame (negsuc a) (pos b) = false
+isSame (negsuc a) (negsuc b) = eqb a b
+
+-- a sample at an end of the converter's range, -128 or 127, is clipped
+unfoldable pub isClipped : ℤ → Bool
+isClipped x = isSame x (negsuc 127) || isSame x (pos 127)
+
+abbrev pub clippedOne : ℤ → ℕ
+clippedOne x = cond (isClipped x) 1 0
+
+-- how many samples are clipped
+unfoldable pub clippedOf : List ℤ → ℕ
+clippedOf [] = 0
+clippedOf (x ∷ samples) = clippedOne x + clippedOf samples
+
 unfoldable pub totalOf : List ℤ → Total
 totalOf samples =
-    record { sum = sumOf samples; squares = squaresOf samples; least = leastOf samples; greatest = greatestOf samples }
+    record {
+      sum = sumOf samples;
+      squares = squaresOf samples;
+      least = leastOf samples;
+      greatest = greatestOf samples;
+      clipped = clippedOf samples;
+    }
 
 -- the total of no samples
 abbrev pub noTotal : Total
-noTotal = record { sum = pos 0; squares = 0; least = pos 0; greatest = pos 0 }
+noTotal = record { sum = pos 0; squares = 0; least = pos 0; greatest = pos 0; clipped = 0 }
 
 -- the totals of channels 1 to 4 over the first n samples of each
 unfoldable pub totalsOf : List ℕ → ℕ → List Total

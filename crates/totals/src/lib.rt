@@ -1,11 +1,11 @@
-// Totals of the four channels over a stretch of samples: for each its sum, sum of squares, least and greatest. FORMAT, "Samples",
-// "The index of seconds".
+// Totals of the four channels over a stretch of samples: for each its sum, sum of squares, least, greatest and clipped samples.
+// FORMAT, "Samples", "The index of seconds".
 ghost use mathlib.Core.Path.{_≡_};
 ghost use Prim.Native.Nat.{_+_, _*_, _≤_, _<_};
 ghost use lib.IntN.{natAbs};
 ghost use lib.ListN.{length};
 ghost use Rattle.channels.specs.Sample.{sampleOf};
-ghost use Rattle.totals.specs.Total.{lesser, greater, totalsOf, countLimit, setCount};
+ghost use Rattle.totals.specs.Total.{lesser, greater, clippedOne, totalsOf, countLimit, setCount};
 ghost use Rattle.totals.specs.Running.{nextOf, Room, runningsOf, totalAt, channelNext};
 
 // The most samples a channel that one call takes: more than any record has.
@@ -18,6 +18,7 @@ pub struct Total {
     pub squares: u64,
     pub least: i8,
     pub greatest: i8,
+    pub clipped: u32,
 }
 
 // The total of no samples.
@@ -26,6 +27,7 @@ pub const NO_TOTAL: Total = Total {
     squares: 0,
     least: 0,
     greatest: 0,
+    clipped: 0,
 };
 
 fn widened(sample: i8) -> i64
@@ -54,6 +56,13 @@ fn greater(a: i8, b: i8) -> i8
     if b < a { a } else { b }
 }
 
+// 1 for a sample at an end of the converter's range.
+fn clipped_one(sample: i8) -> u32
+    ensures { λ r. ⌜ r ≡ clippedOne sample ⌝ }
+{
+    if (sample == -128) | (sample == 127) { 1 } else { 0 }
+}
+
 impl Total {
     // The total with one sample more.
     fn with(self, sample: i8) -> Total
@@ -65,6 +74,7 @@ impl Total {
             squares: self.squares + squared(sample),
             least: lesser(self.least, sample),
             greatest: greater(self.greatest, sample),
+            clipped: self.clipped + clipped_one(sample),
         }
     }
 }
@@ -114,6 +124,7 @@ fn sum_sets(stretch: &[u8], count: usize) -> [Total; 4]
         squares: 0,
         least: 127,
         greatest: -128,
+        clipped: 0,
     };
     let mut totals = [start; 4];
     let mut k = 0;

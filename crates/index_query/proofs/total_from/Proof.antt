@@ -20,7 +20,8 @@ returns c = (
 
 returns-2 : tie.Need-returns-2
 returns-2 c =
-    let highs = c .before in
+    let found = c .before in
+    let highs = found .before in
     let lows = highs .before .before in
     let squares = lows .before .before in
     let sums = squares .before in
@@ -35,8 +36,8 @@ returns-2 c =
     ∙ ap leastFrom (lows .channel-cell3 .ensures)
     in
     let greatest =
-    toZ-ofZ w8 (c .greatest-from .result) (record { sfits = c .greatest-from .ok })
-    ∙ c .greatest-from .ensures
+    toZ-ofZ w8 (found .greatest-from .result) (record { sfits = found .greatest-from .ok })
+    ∙ found .greatest-from .ensures
     ∙ ap greatestFrom (highs .channel-cell4 .ensures)
     in (
       (λ t. record {
@@ -45,6 +46,7 @@ returns-2 c =
             (lows .before .wide .ensures .0 ∙ squares .channel-cell2 .ensures) t;
         least = least t;
         greatest = greatest t;
+        clipped = c .channel-cell5 .ensures t;
       })
           ∙ some-read (a .count) (a .t1) (a .channel) (none .if1 .left),
       record { sums = subst (λ (z : ℤ). natAbs z ≤ exactLimit) (sym back) (sums .sum-from .ensures .1); squared = search needs },
@@ -56,6 +58,7 @@ total-from-spec =
     (tie.spec
     (λ c. search needs)
     returns
+    (λ c κs. search needs)
     (λ c κs. search needs)
     (λ c κs. search needs)
     (λ c κs. search needs)

@@ -62,7 +62,7 @@ returns : tie.Need-returns
 returns c =
     let l = c .before .before in
     let s = l .before .before .before .before .before .before in
-    λ i. cell-is (sum-made _ _ (bounded s)) i ∷ total s .squares ∷ cell-is (least-made _ (low l)) i
+    λ i. cell-is (least-made _ (low l)) i ∷ cell-is (sum-made _ _ (bounded s)) i ∷ total s .squares ∷ total s .clipped
     ∷ cell-is (greatest-made _ (high c)) i ∷ []
 
 pub channel-cells-spec : {M : Type 1} → statement M
