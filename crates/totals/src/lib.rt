@@ -60,7 +60,11 @@ fn greater(a: i8, b: i8) -> i8
 fn clipped_one(sample: i8) -> u32
     ensures { λ r. ⌜ r ≡ clippedOne sample ⌝ }
 {
-    if (sample == -128) | (sample == 127) { 1 } else { 0 }
+    if (sample == -128) | (sample == 127) {
+        1
+    } else {
+        0
+    }
 }
 
 impl Total {

@@ -75,9 +75,9 @@ shownℤ a = pos (a .number) ∷ a .value ∷ []
 abbrev pub shownField : ℕ → Field → List ℕ → List ℤ
 shownField n f b = pos (headerAnswer n b .number) ∷ pos (valueIn (fieldsOf n) (headerAnswer n b .value) f) ∷ []
 
--- sum, squares, least and greatest
+-- sum, squares, least, greatest and clipped samples
 abbrev pub shownTotal : Total → List ℤ
-shownTotal t = t .sum ∷ pos (t .squares) ∷ t .least ∷ t .greatest ∷ []
+shownTotal t = t .sum ∷ pos (t .squares) ∷ t .least ∷ t .greatest ∷ pos (t .clipped) ∷ []
 
 -- both sides of a case
 abbrev pub given : Case → List ℤ
@@ -112,8 +112,10 @@ cases =
     ∷ ((fromTag 300 0 ∷ fromTag 300 3 ∷ fromTag 7 1 ∷ []) against (negℤ (pos 6667) ∷ pos 3333 ∷ negℤ (pos 142858) ∷ []))
     -- bytes 80, 7F and FF hex
     ∷ ((signedOf 128 ∷ signedOf 127 ∷ signedOf 255 ∷ []) against (negℤ (pos 128) ∷ pos 127 ∷ negℤ (pos 1) ∷ []))
-    -- the total of samples 3 and -4
-    ∷ (shownTotal (totalOf (pos 3 ∷ negℤ (pos 4) ∷ [])) against (negℤ (pos 1) ∷ pos 25 ∷ negℤ (pos 4) ∷ pos 3 ∷ []))
+    -- the total of samples 3 and -4; of -128, -127, 126 and 127, two of them clipped
+    ∷ (shownTotal (totalOf (pos 3 ∷ negℤ (pos 4) ∷ [])) against (negℤ (pos 1) ∷ pos 25 ∷ negℤ (pos 4) ∷ pos 3 ∷ pos 0 ∷ []))
+    ∷ (shownTotal (totalOf (negℤ (pos 128) ∷ negℤ (pos 127) ∷ pos 126 ∷ pos 127 ∷ []))
+    against (negℤ (pos 2) ∷ pos 64518 ∷ negℤ (pos 128) ∷ pos 127 ∷ pos 2 ∷ []))
     -- ## of 1992, from its own pages
 
     -- a POCA frequency of hex 41 5624 2167 3152, and the three frequency rates 12 3452, 12 3457 and 12 3451
