@@ -75,21 +75,21 @@ pub fn any_record(rng: &mut Rng) -> (u64, Lent<u8>) {
     (edition, Lent::of(&any_bytes(rng, made)))
 }
 
-/// A call that reads any bytes as a record of an edition; gives the edition and what the second program answers.
+/// A call that reads any bytes as a record of an edition; gives the edition and what the second program tells of an accepted one.
 fn read<T, A: Answer>(
     run: &mut Run,
     call: &str,
     second: impl Fn(u64, &[u8]) -> Result<T, u8>,
     given: impl Fn(&T) -> A,
     library: impl Fn(u64, &[u8]) -> A,
-) -> (u64, Result<T, u8>) {
+) -> Option<(u64, T)> {
     let (edition, mut record) = any_record(&mut run.rng);
     let told = second(edition, record.body());
     let expected = answer(&told, given);
     let actual = library(edition, record.body());
     let outcome = outcome(edition, record.body(), expected.number());
     run.compare(call, &outcome, actual, expected, &[("record", record.difference())]);
-    (edition, told)
+    Some((edition, told.ok()?))
 }
 
 pub fn refusal(run: &mut Run) {
@@ -180,7 +180,7 @@ pub fn totals(run: &mut Run) {
     let call = "odr_totals";
     let counted = |edition, record: &[u8]| Ok((record::record_rate(edition, record)?.samples, samples::totals(edition, record)?));
     let given = |(_, channels): &(u64, [samples::Total; 4])| TotalsAnswer { refusal: 0, channels: channels.map(total) };
-    if let (edition, Ok((samples, channels))) = read(run, call, counted, given, odr::totals) {
+    if let Some((edition, (samples, channels))) = read(run, call, counted, given, odr::totals) {
         met_clipped(run, call, edition, samples, &channels);
     }
 }

@@ -132,16 +132,13 @@ pub fn is_of(held: u32, own: u32, second: u64) -> bool
     (held != 0) & (wide(own) == second)
 }
 
-// The cells with those of row i added, where that is held and of the second.
-fn with_row(cells: [u32; WIDTH], rows: &[u32], i: usize, second: u64) -> [u32; WIDTH]
+// Whether row i is held and of a second.
+fn row_within(rows: &[u32], i: usize, second: u64) -> bool
     requires { ⌜ width * i + width ≤ length (now rows) ⌝ }
-    ensures { λ r. ⌜ r ≡ cond (rowWithin (now (rows .entry)) i second) (merged cells (blockAt (now (rows .entry)) i)) cells ⌝ }
+    ensures { λ r. ⌜ r ≡ rowWithin (now (rows .entry)) i second ⌝ }
 {
     let at = WIDTH * i;
-    if is_of(rows[at + RECORDS], rows[at + SECOND], second) {
-        return merged_cells(cells, read_block(rows, i));
-    }
-    cells
+    is_of(rows[at + RECORDS], rows[at + SECOND], second)
 }
 
 // The cells of a second from the first `count` rows.
@@ -152,8 +149,10 @@ fn from_rows(rows: &[u32], second: u64, count: usize) -> [u32; WIDTH]
     let mut cells = [0u32; WIDTH];
     let mut i: usize = 0;
     while i < count {
-        let next = with_row(cells, rows, i, second);
-        cells = next;
+        if row_within(rows, i, second) {
+            let next = merged_cells(cells, read_block(rows, i));
+            cells = next;
+        }
         i += 1;
     }
     cells

@@ -1,10 +1,10 @@
-use mathlib.Core.Path.{_≡_, ap, _∙_}
-use mathlib.Core.Bool.{cond}
 use Prim.Native.Nat.{_-_, _*_, _≤_}
+use mathlib.Core.Path.{_≡_, ap, sym, _∙_}
+use mathlib.Core.Logic.{⊎-elim}
 use native.Mathlib.Omega.{arith}
 use lib.ListN.{length}
-use Rattle.index_model.specs.Cells.{width, blockAt, merged, rowWithin, secondFrom}
-use Rattle.index_cells.proofs.Merging.{none-passed, row-passed}
+use Rattle.index_model.specs.Cells.{width, merged, secondFrom}
+use Rattle.index_cells.proofs.Merging.{none-passed, row-merged, row-skipped}
 use borrow.Author.Needs.{needs}
 use Rattle.index_cells.proofs.from_rows.Statement.{statement}
 use Rattle.index_cells.proofs.from_rows.Tie as tie
@@ -20,14 +20,20 @@ loop-holds c = (search needs, search needs, none-passed _ _)
 
 loop-again : tie.Need-loop-again Inv-loop μ-loop
 loop-again c =
-    let a = c .before .before .before .before .args in
-    let l = c .before .before .loop in (
+    let test = c .before in
+    let l = test .before .before in
+    let a = l .before .before .args in (
       search needs,
       search needs,
-      c .with-row .ensures
-          ∙ (λ t. cond (rowWithin (a .rows .now) (l .i) (a .second)) (merged (l .inv .2 t) (blockAt (a .rows .now) (l .i)))
-          (l .inv .2 t))
-          ∙ row-passed (a .rows .now) (a .second) (l .i),
+      ⊎-elim
+          (λ m. m .3
+          ∙ m .2 .ensures
+          ∙ (λ t. merged (l .loop .inv .2 t) (m .1 .ensures t))
+          ∙ row-merged (a .rows .now) (a .second) (l .loop .i) (sym (test .row-within .ensures) ∙ m .0 .taken))
+          (λ s. s .1
+          ∙ l .loop .inv .2
+          ∙ row-skipped (a .rows .now) (a .second) (l .loop .i) (sym (test .row-within .ensures) ∙ s .0 .left))
+          (c .if1 .came),
     )
 
 returns : tie.Need-returns Inv-loop μ-loop
@@ -37,4 +43,14 @@ returns c =
 pub from-rows-spec : {M : Type 1} → statement M
 from-rows-spec =
     tie.close
-    (tie.spec Inv-loop μ-loop loop-holds (λ c κs. search needs) (λ c. search needs) (λ c. search needs) loop-again returns)
+    (tie.spec
+    Inv-loop
+    μ-loop
+    loop-holds
+    (λ c κs. search needs)
+    (λ c κs. search needs)
+    (λ c κs. search needs)
+    (λ c. search needs)
+    (λ c. search needs)
+    loop-again
+    returns)
