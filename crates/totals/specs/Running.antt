@@ -20,7 +20,7 @@ nextOf total sample =
       clipped = total .clipped + clippedOne sample;
     }
 
--- a total whose sums are far from the ends of their widths, so that one sample more fits
+-- a total whose sums and count are far from the ends of their widths, so that one sample more fits
 abbrev pub roomLimit : ℕ
 roomLimit = 2 ^ 62
 

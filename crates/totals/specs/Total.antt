@@ -43,7 +43,7 @@ isSame (pos a) (negsuc b) = false
 isSame (negsuc a) (pos b) = false
 isSame (negsuc a) (negsuc b) = eqb a b
 
--- a sample at an end of the converter's range, -128 or 127, is clipped
+-- a sample at an end of the converter's range, -128 or 127, is clipped; `negsuc 127` is -128
 unfoldable pub isClipped : ℤ → Bool
 isClipped x = isSame x (negsuc 127) || isSame x (pos 127)
 
