@@ -15,7 +15,7 @@ use Rattle.totals.specs.Total.{sumOf, squaresOf, keptOf, clippedOf, noTotal, to
 use Rattle.totals.proofs.Samples.{Bytes, bytes-append}
 use Rattle.index_model.specs.declared.Opening.{Opening}
 use Rattle.index_model.specs.Records.{Record, secondOf, hasOrigin, hasError, channelSamples}
-use Rattle.index_model.specs.Cells.{width, channelCell, sampleOffset}
+use Rattle.index_model.specs.Cells.{width, channelCell, leastAt, sumAt, squaresAt, clippedAt, greatestAt, sampleOffset}
 use Rattle.index_model.specs.Calls.{fullCount, leastFrom, greatestFrom, channelShown, totalFrom, keptFrom, secondShown}
 use Rattle.index_model.specs.Ledger.{Ledger, recordIn, recordsOf, countOf, totalsOver, ledgerSecond}
 use Rattle.index_model.proofs.Totals.{cellTotal}
@@ -104,11 +104,11 @@ module _ (o : Opening) (c : ℕ) where
   -- what the cells of a second hold for the channel, and the total that they say
   pub record Holds (r : List Record) (second : List ℕ) : Type 0 where
     pub records : getD second 0 0 ≡ length r
-    pub least : getD second (channelCell c 0) 0 ≡ topCode leastCode (flatMap (channelSamples c) r)
-    pub sum : getD second (channelCell c 1) 0 ≡ sumCode (flatMap (channelSamples c) r)
-    pub squares : getD second (channelCell c 2) 0 ≡ squaresOf (flatMap (channelSamples c) r)
-    pub clipped : getD second (channelCell c 3) 0 ≡ clippedOf (flatMap (channelSamples c) r)
-    pub greatest : getD second (channelCell c 4) 0 ≡ topCode greatestCode (flatMap (channelSamples c) r)
+    pub least : getD second (channelCell c leastAt) 0 ≡ topCode leastCode (flatMap (channelSamples c) r)
+    pub sum : getD second (channelCell c sumAt) 0 ≡ sumCode (flatMap (channelSamples c) r)
+    pub squares : getD second (channelCell c squaresAt) 0 ≡ squaresOf (flatMap (channelSamples c) r)
+    pub clipped : getD second (channelCell c clippedAt) 0 ≡ clippedOf (flatMap (channelSamples c) r)
+    pub greatest : getD second (channelCell c greatestAt) 0 ≡ topCode greatestCode (flatMap (channelSamples c) r)
 
   total-decoded : (r : List Record) → AllSound o r → (second : List ℕ) → Holds r second
       → totalFrom (getD second 0 0 * perRecord o) second c ≡ totalOf (flatMap (channelSamples c) r)
@@ -121,9 +121,9 @@ module _ (o : Opening) (c : ℕ) where
       ∙ (λ t. record {
         sum = sums t;
         squares = e .squares t;
-        least = kept-read least-coding leastFrom least-from l signed some (getD second (channelCell c 0) 0) (e .least) t;
+        least = kept-read least-coding leastFrom least-from l signed some (getD second (channelCell c leastAt) 0) (e .least) t;
         greatest =
-            kept-read greatest-coding greatestFrom greatest-from l signed some (getD second (channelCell c 4) 0) (e .greatest) t;
+            kept-read greatest-coding greatestFrom greatest-from l signed some (getD second (channelCell c greatestAt) 0) (e .greatest) t;
         clipped = e .clipped t;
       })
     where
@@ -139,9 +139,9 @@ module _ (o : Opening) (c : ℕ) where
       size : getD second 0 0 * perRecord o ≡ length l
       size = ap (λ (n : ℕ). n * perRecord o) (e .records) ∙ sym (joined-length (b ∷ r) h)
 
-      sums : pos (getD second (channelCell c 1) 0) -ℤ pos (sampleOffset * (getD second 0 0 * perRecord o)) ≡ sumOf l
+      sums : pos (getD second (channelCell c sumAt) 0) -ℤ pos (sampleOffset * (getD second 0 0 * perRecord o)) ≡ sumOf l
       sums =
-          minus-sub (getD second (channelCell c 1) 0) (sampleOffset * (getD second 0 0 * perRecord o))
+          minus-sub (getD second (channelCell c sumAt) 0) (sampleOffset * (getD second 0 0 * perRecord o))
           ∙ (λ t. subℕ (e .sum t) (sampleOffset * size t))
           ∙ sym (sum-decoded l signed)
 
@@ -165,11 +165,11 @@ module _ (o : Opening) (L : Ledger) (sound : SoundLedger o L) (s : ℕ) where
   channel-holds c p q =
       record {
         records = at 0 (omega arith) (measures-records o);
-        least = at (channelCell c 0) (omega arith) (measures-least o c p q);
-        sum = at (channelCell c 1) (omega arith) (measures-sum o c p q);
-        squares = at (channelCell c 2) (omega arith) (measures-squares o c p q);
-        clipped = at (channelCell c 3) (omega arith) (measures-clipped o c p q);
-        greatest = at (channelCell c 4) (omega arith) (measures-greatest o c p q);
+        least = at (channelCell c leastAt) (omega arith) (measures-least o c p q);
+        sum = at (channelCell c sumAt) (omega arith) (measures-sum o c p q);
+        squares = at (channelCell c squaresAt) (omega arith) (measures-squares o c p q);
+        clipped = at (channelCell c clippedAt) (omega arith) (measures-clipped o c p q);
+        greatest = at (channelCell c greatestAt) (omega arith) (measures-greatest o c p q);
       }
 
   channel-decoded : (c : ℕ) → 1 ≤ c → c ≤ 4 → totalFrom (getD secondCells 0 0 * perRecord o) secondCells c

@@ -12,7 +12,7 @@ use Rattle.totals.specs.Total.{squaresOf, clippedOf}
 use Rattle.totals.proofs.Sums.{squares-append, clipped-append}
 use Rattle.index_model.specs.declared.Opening.{Opening}
 use Rattle.index_model.specs.Records.{Record, secondOf, hasOrigin, hasError, channelSamples}
-use Rattle.index_model.specs.Cells.{channelWidth, channelCell, rowOf, flag, isGreatest}
+use Rattle.index_model.specs.Cells.{channelWidth, channelCell, leastAt, sumAt, squaresAt, clippedAt, greatestAt, rowOf, flag, isGreatest}
 use Rattle.index_model.specs.Ledger.{Ledger, recordIn, recordsOf, countOf}
 use Rattle.index_model.proofs.Merges.{plainBy, plain-sum}
 use Rattle.index_model.proofs.Rows.{row-records, row-origin, row-error, channel-kind}
@@ -108,23 +108,23 @@ module _ (o : Opening) (c : ℕ) (p : 1 ≤ c) (q : c ≤ 4) where
             λ b s. row-codes b (s .accepted) c i p q h ∙ is (channelSamples c b) ∙ ap code (sym (flat-one (channelSamples c) b));
       }
 
-  pub measures-least : Measures o (channelCell c 0) (λ (r : List Record). topCode leastCode (flatMap (channelSamples c) r))
+  pub measures-least : Measures o (channelCell c leastAt) (λ (r : List Record). topCode leastCode (flatMap (channelSamples c) r))
   unfolding plainBy isGreatest topCode
-  measures-least = measures-code 0 (omega arith) (topCode leastCode) refl (top-append leastCode) (λ l. refl)
+  measures-least = measures-code leastAt (omega arith) (topCode leastCode) refl (top-append leastCode) (λ l. refl)
 
-  pub measures-sum : Measures o (channelCell c 1) (λ (r : List Record). sumCode (flatMap (channelSamples c) r))
+  pub measures-sum : Measures o (channelCell c sumAt) (λ (r : List Record). sumCode (flatMap (channelSamples c) r))
   unfolding plainBy isGreatest sumCode
-  measures-sum = measures-code 1 (omega arith) sumCode refl sum-code-append (λ l. refl)
+  measures-sum = measures-code sumAt (omega arith) sumCode refl sum-code-append (λ l. refl)
 
-  pub measures-squares : Measures o (channelCell c 2) (λ (r : List Record). squaresOf (flatMap (channelSamples c) r))
+  pub measures-squares : Measures o (channelCell c squaresAt) (λ (r : List Record). squaresOf (flatMap (channelSamples c) r))
   unfolding plainBy isGreatest squaresOf
-  measures-squares = measures-code 2 (omega arith) squaresOf refl squares-append (λ l. refl)
+  measures-squares = measures-code squaresAt (omega arith) squaresOf refl squares-append (λ l. refl)
 
-  pub measures-clipped : Measures o (channelCell c 3) (λ (r : List Record). clippedOf (flatMap (channelSamples c) r))
+  pub measures-clipped : Measures o (channelCell c clippedAt) (λ (r : List Record). clippedOf (flatMap (channelSamples c) r))
   unfolding plainBy isGreatest clippedOf
-  measures-clipped = measures-code 3 (omega arith) clippedOf refl clipped-append (λ l. refl)
+  measures-clipped = measures-code clippedAt (omega arith) clippedOf refl clipped-append (λ l. refl)
 
-  pub measures-greatest : Measures o (channelCell c 4)
+  pub measures-greatest : Measures o (channelCell c greatestAt)
       (λ (r : List Record). topCode greatestCode (flatMap (channelSamples c) r))
   unfolding plainBy isGreatest topCode
-  measures-greatest = measures-code 4 (omega arith) (topCode greatestCode) refl (top-append greatestCode) (λ l. refl)
+  measures-greatest = measures-code greatestAt (omega arith) (topCode greatestCode) refl (top-append greatestCode) (λ l. refl)

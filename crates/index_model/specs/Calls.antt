@@ -19,6 +19,11 @@ use Rattle.index_model.specs.Second.{SecondTotals, noSecond}
 use Rattle.index_model.specs.Cells.{
   width,
   channelCell,
+  leastAt,
+  sumAt,
+  squaresAt,
+  clippedAt,
+  greatestAt,
   sampleOffset,
   greatestOffset,
   cell,
@@ -115,11 +120,11 @@ greatestFrom x = signedOf ((x + (256 - greatestOffset)) % 256)
 abbrev pub channelShown : ℕ → List ℕ → ℕ → Total
 channelShown n second channel =
     record {
-      sum = pos (getD second (channelCell channel 1) 0) -ℤ pos (sampleOffset * n);
-      squares = getD second (channelCell channel 2) 0;
-      least = leastFrom (getD second (channelCell channel 0) 0);
-      greatest = greatestFrom (getD second (channelCell channel 4) 0);
-      clipped = getD second (channelCell channel 3) 0;
+      sum = pos (getD second (channelCell channel sumAt) 0) -ℤ pos (sampleOffset * n);
+      squares = getD second (channelCell channel squaresAt) 0;
+      least = leastFrom (getD second (channelCell channel leastAt) 0);
+      greatest = greatestFrom (getD second (channelCell channel greatestAt) 0);
+      clipped = getD second (channelCell channel clippedAt) 0;
     }
 
 -- a second of no records has 0 throughout

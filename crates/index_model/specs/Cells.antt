@@ -28,9 +28,24 @@ headWidth = 4
 abbrev pub channelWidth : ℕ
 channelWidth = 5
 
--- cell j (0 to 4) of channel c (1 to 4)
+-- cell j (0 to 4) of channel c (1 to 4), and what is there
 abbrev pub channelCell : ℕ → ℕ → ℕ
 channelCell c j = headWidth + channelWidth * (c - 1) + j
+
+abbrev pub leastAt : ℕ
+leastAt = 0
+
+abbrev pub sumAt : ℕ
+sumAt = 1
+
+abbrev pub squaresAt : ℕ
+squaresAt = 2
+
+abbrev pub clippedAt : ℕ
+clippedAt = 3
+
+abbrev pub greatestAt : ℕ
+greatestAt = 4
 
 -- a cell is less than this
 abbrev pub cellLimit : ℕ

@@ -10,6 +10,17 @@ pub const HEAD_WIDTH: usize = 4;
 
 pub const CHANNEL_WIDTH: usize = 5;
 
+// The places of a channel's cells among them.
+pub const LEAST: usize = 0;
+
+pub const SUM: usize = 1;
+
+pub const SQUARES: usize = 2;
+
+pub const CLIPPED: usize = 3;
+
+pub const GREATEST: usize = 4;
+
 // A cell is less than this.
 pub const CELL_LIMIT: u64 = 4_294_967_296;
 

@@ -24,10 +24,15 @@ use index_cells::ORIGINS;
 use index_cells::RECORDS;
 use index_cells::SECOND;
 use index_model::CHANNEL_WIDTH;
+use index_model::CLIPPED;
+use index_model::GREATEST;
 use index_model::GREATEST_OFFSET;
 use index_model::HEAD_WIDTH;
+use index_model::LEAST;
 use index_model::Opening;
 use index_model::SAMPLE_OFFSET;
+use index_model::SQUARES;
+use index_model::SUM;
 use index_model::WIDTH;
 use totals::NO_TOTAL;
 use totals::Total;
@@ -89,11 +94,11 @@ fn total_from(cells: [u32; WIDTH], count: u64, channel: usize) -> Total
         return NO_TOTAL;
     }
     Total {
-        sum: sum_from(channel_cell(cells, channel, 1), count),
-        squares: index_cells::wide(channel_cell(cells, channel, 2)),
-        least: least_from(channel_cell(cells, channel, 0)),
-        greatest: greatest_from(channel_cell(cells, channel, 4)),
-        clipped: channel_cell(cells, channel, 3),
+        sum: sum_from(channel_cell(cells, channel, SUM), count),
+        squares: index_cells::wide(channel_cell(cells, channel, SQUARES)),
+        least: least_from(channel_cell(cells, channel, LEAST)),
+        greatest: greatest_from(channel_cell(cells, channel, GREATEST)),
+        clipped: channel_cell(cells, channel, CLIPPED),
     }
 }
 
