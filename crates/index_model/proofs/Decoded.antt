@@ -123,7 +123,8 @@ module _ (o : Opening) (c : ℕ) where
         squares = e .squares t;
         least = kept-read least-coding leastFrom least-from l signed some (getD second (channelCell c leastAt) 0) (e .least) t;
         greatest =
-            kept-read greatest-coding greatestFrom greatest-from l signed some (getD second (channelCell c greatestAt) 0) (e .greatest) t;
+            kept-read greatest-coding greatestFrom greatest-from l signed some (getD second (channelCell c greatestAt) 0)
+            (e .greatest) t;
         clipped = e .clipped t;
       })
     where

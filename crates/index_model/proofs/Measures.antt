@@ -12,7 +12,18 @@ use Rattle.totals.specs.Total.{squaresOf, clippedOf}
 use Rattle.totals.proofs.Sums.{squares-append, clipped-append}
 use Rattle.index_model.specs.declared.Opening.{Opening}
 use Rattle.index_model.specs.Records.{Record, secondOf, hasOrigin, hasError, channelSamples}
-use Rattle.index_model.specs.Cells.{channelWidth, channelCell, leastAt, sumAt, squaresAt, clippedAt, greatestAt, rowOf, flag, isGreatest}
+use Rattle.index_model.specs.Cells.{
+  channelWidth,
+  channelCell,
+  leastAt,
+  sumAt,
+  squaresAt,
+  clippedAt,
+  greatestAt,
+  rowOf,
+  flag,
+  isGreatest,
+}
 use Rattle.index_model.specs.Ledger.{Ledger, recordIn, recordsOf, countOf}
 use Rattle.index_model.proofs.Merges.{plainBy, plain-sum}
 use Rattle.index_model.proofs.Rows.{row-records, row-origin, row-error, channel-kind}
@@ -92,7 +103,8 @@ flat-one f b = append-nil (f b)
 module _ (o : Opening) (c : ℕ) (p : 1 ≤ c) (q : c ≤ 4) where
   -- a code of samples that cell i of the channel holds
   measures-code : (i : ℕ) → i < channelWidth → (code : List ℤ → ℕ) → code [] ≡ 0
-      → ((l k : List ℤ) → code (l ++ k) ≡ plainBy (isGreatest (channelCell 1 i)) (code l) (code k)) → ((l : List ℤ) → getD (codes l) i 0 ≡ code l)
+      → ((l k : List ℤ) → code (l ++ k) ≡ plainBy (isGreatest (channelCell 1 i)) (code l) (code k))
+      → ((l : List ℤ) → getD (codes l) i 0 ≡ code l)
       → Measures o (channelCell c i) (λ (r : List Record). code (flatMap (channelSamples c) r))
   unfolding flatMap
   measures-code i h code zeroes joined is =

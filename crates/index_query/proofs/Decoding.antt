@@ -1,4 +1,4 @@
--- A channel's total read from its four cells, and the samples that a second can have at most. Assumes nothing.
+-- A channel's total read from its cells, and the samples that a second can have at most. Assumes nothing.
 use Prim.Native.Nat.{ℕ, suc, _-_, _*_, _≤_, _<_}
 use mathlib.Core.Path.{_≡_, sym, _∙_, subst}
 use mathlib.Core.Bool.{Bool, true, false, cond}
