@@ -599,7 +599,8 @@ static void clipped(const example *given) {
     printf("clipped: %u\n", odr_write_samples(r.edition, r.bytes, r.length, one, n, two, n, three, n, four, n));
     print_channels(odr_totals(r.edition, r.bytes, r.length).channels);
     open("for clipped samples", &r, r.length, SECONDS, ROW_CELLS);
-    printf("insert 1: %u, 2: %u\n", insert(&r, 1), insert(&r, 2));
+    printf("insert 1: %u", insert(&r, 1));
+    printf(", 2: %u\n", insert(&r, 2));
     query(NOON);
     printf("insert 2 again: %u\n", insert(&zeros, 2));
     query(NOON);

@@ -141,7 +141,7 @@ pub fn record_with(rng: &mut Rng, edition: &Edition, rate: Rate, words: u64) -> 
     r
 }
 
-/// Gives a channel, 0 to 3 in a stretch of samples, no clipped samples but those beside them, or one, or some, or only such.
+/// Makes none, one, some or all samples of a channel, 0 to 3 in a stretch, clipped ones; 126 or -127 where one was that must not be.
 fn clip(rng: &mut Rng, samples: &mut [u8], channel: usize) {
     let one = rng.next() as usize % (samples.len() / 4);
     let kind = rng.next() % 4;

@@ -132,7 +132,7 @@ pub fn is_of(held: u32, own: u32, second: u64) -> bool
     (held != 0) & (wide(own) == second)
 }
 
-// Whether row i is held and of a second.
+// Whether row i, which is there, is held and of a second. The pass over the rows asks this of each.
 fn row_within(rows: &[u32], i: usize, second: u64) -> bool
     requires { ⌜ width * i + width ≤ length (now rows) ⌝ }
     ensures { λ r. ⌜ r ≡ rowWithin (now (rows .entry)) i second ⌝ }

@@ -14,8 +14,9 @@ use mir.Val.{SFits}
 use Rattle.lists.proofs.Order.{le-or-lt}
 use Rattle.channels.specs.Sample.{signedOf}
 use Rattle.channels.proofs.Sign.{signed-low, signed-high}
-use Rattle.totals.specs.Total.{sumOf, squaresOf, lesser, greater, keptOf, leastOf, greatestOf, clippedOf, totalOf}
+use Rattle.totals.specs.Total.{sumOf, addedOf, squaresOf, lesser, greater, keptOf, leastOf, greatestOf, clippedOf, totalOf}
 use Rattle.totals.proofs.Samples.{Bytes}
+use Rattle.totals.proofs.Sums.{added-bound}
 use Rattle.index_model.specs.Cells.{sampleOffset, greatestOffset, natOf, channelCells}
 use Rattle.index_model.specs.Calls.{leastFrom, greatestFrom}
 use Rattle.index_model.proofs.Differences.{
@@ -46,22 +47,14 @@ offset-back (negsuc n) h = sym (sub-neg (sampleOffset - suc n) sampleOffset n (o
 
 -- ## sums
 
-unfoldable pub sumCode : List ℤ → ℕ
-sumCode [] = 0
-sumCode (x ∷ l) = offset x + sumCode l
-
-pub sum-code-append : (l m : List ℤ) → sumCode (l ++ m) ≡ sumCode l + sumCode m
-unfolding sumCode
-sum-code-append [] m = omega arith
-sum-code-append (x ∷ l) m = omega (arith, sum-code-append l m)
+abbrev pub sumCode : List ℤ → ℕ
+sumCode l = addedOf offset l
 
 pub sum-code-small : (l : List ℤ) → Bytes l → sumCode l ≤ 255 * length l
-unfolding sumCode
-sum-code-small [] h = omega arith
-sum-code-small (x ∷ l) h = omega (arith, offset-small x (h .0), sum-code-small l (h .1))
+sum-code-small = added-bound offset 255 (λ x f. omega (arith, offset-small x f))
 
 pub sum-decoded : (l : List ℤ) → Bytes l → sumOf l ≡ subℕ (sumCode l) (sampleOffset * length l)
-unfolding sumOf sumCode
+unfolding sumOf addedOf
 sum-decoded [] h = refl
 sum-decoded (x ∷ l) h =
     (λ t. offset-back x (h .0) t +ℤ sum-decoded l (h .1) t)

@@ -11,7 +11,7 @@ use lib.ListN.{getD, length, length-append}
 use Rattle.lists.specs.Fill.{tab}
 use Rattle.lists.proofs.Fill.{getD-tab}
 use Rattle.answers.proofs.Refusals.{cond-none, cond-some}
-use Rattle.totals.specs.Total.{sumOf, squaresOf, keptOf, clippedOf, noTotal, totalOf}
+use Rattle.totals.specs.Total.{sumOf, addedOf, squaresOf, keptOf, clippedOf, noTotal, totalOf}
 use Rattle.totals.proofs.Samples.{Bytes, bytes-append}
 use Rattle.index_model.specs.declared.Opening.{Opening}
 use Rattle.index_model.specs.Records.{Record, secondOf, hasOrigin, hasError, channelSamples}
@@ -112,7 +112,7 @@ module _ (o : Opening) (c : ℕ) where
 
   total-decoded : (r : List Record) → AllSound o r → (second : List ℕ) → Holds r second
       → totalFrom (getD second 0 0 * perRecord o) second c ≡ totalOf (flatMap (channelSamples c) r)
-  unfolding totalFrom totalOf sumOf squaresOf keptOf clippedOf flatMap
+  unfolding totalFrom totalOf sumOf addedOf keptOf flatMap
   total-decoded [] h second e =
       cond-none (getD second 0 0) (channelShown (getD second 0 0 * perRecord o) second c) noTotal (e .records)
   total-decoded (b ∷ r) h second e =

@@ -1,5 +1,5 @@
 -- What each cell of a second measures: a number of the records that the second has, by their list. Assumes nothing.
-use Prim.Native.Nat.{ℕ, zero, suc, _+_, _*_, _<_, _≤_}
+use Prim.Native.Nat.{ℕ, zero, suc, _+_, _<_, _≤_}
 use mathlib.Core.Path.{_≡_, refl, ap, sym, _∙_}
 use mathlib.Core.Bool.{Bool, true, false, cond}
 use mathlib.Core.List.{List, [], _∷_, _++_, flatMap, append-assoc, append-nil}
@@ -8,8 +8,8 @@ use native.Mathlib.Omega.{arith}
 use lib.Dec.{eqb}
 use lib.IntN.{ℤ}
 use lib.ListN.{getD, length, length-append}
-use Rattle.totals.specs.Total.{squaresOf, clippedOf}
-use Rattle.totals.proofs.Sums.{squares-append, clipped-append}
+use Rattle.totals.specs.Total.{addedOf, squareOf, squaresOf, clippedOne, clippedOf}
+use Rattle.totals.proofs.Sums.{added-append}
 use Rattle.index_model.specs.declared.Opening.{Opening}
 use Rattle.index_model.specs.Records.{Record, secondOf, hasOrigin, hasError, channelSamples}
 use Rattle.index_model.specs.Cells.{
@@ -28,7 +28,7 @@ use Rattle.index_model.specs.Ledger.{Ledger, recordIn, recordsOf, countO
 use Rattle.index_model.proofs.Merges.{plainBy, plain-sum}
 use Rattle.index_model.proofs.Rows.{row-records, row-origin, row-error, channel-kind}
 use Rattle.index_model.proofs.Totals.{share, cellTotal, count-sum}
-use Rattle.index_model.proofs.Codes.{sumCode, sum-code-append, topCode, top-append, leastCode, greatestCode, codes}
+use Rattle.index_model.proofs.Codes.{offset, sumCode, topCode, top-append, leastCode, greatestCode, codes}
 use Rattle.index_model.proofs.Sound.{Sound, SoundLedger, row-codes}
 
 -- m is what cell j measures of a list of records
@@ -125,16 +125,16 @@ module _ (o : Opening) (c : ℕ) (p : 1 ≤ c) (q : c ≤ 4) where
   measures-least = measures-code leastAt (omega arith) (topCode leastCode) refl (top-append leastCode) (λ l. refl)
 
   pub measures-sum : Measures o (channelCell c sumAt) (λ (r : List Record). sumCode (flatMap (channelSamples c) r))
-  unfolding plainBy isGreatest sumCode
-  measures-sum = measures-code sumAt (omega arith) sumCode refl sum-code-append (λ l. refl)
+  unfolding plainBy isGreatest addedOf
+  measures-sum = measures-code sumAt (omega arith) sumCode refl (added-append offset) (λ l. refl)
 
   pub measures-squares : Measures o (channelCell c squaresAt) (λ (r : List Record). squaresOf (flatMap (channelSamples c) r))
-  unfolding plainBy isGreatest squaresOf
-  measures-squares = measures-code squaresAt (omega arith) squaresOf refl squares-append (λ l. refl)
+  unfolding plainBy isGreatest addedOf
+  measures-squares = measures-code squaresAt (omega arith) squaresOf refl (added-append squareOf) (λ l. refl)
 
   pub measures-clipped : Measures o (channelCell c clippedAt) (λ (r : List Record). clippedOf (flatMap (channelSamples c) r))
-  unfolding plainBy isGreatest clippedOf
-  measures-clipped = measures-code clippedAt (omega arith) clippedOf refl clipped-append (λ l. refl)
+  unfolding plainBy isGreatest addedOf
+  measures-clipped = measures-code clippedAt (omega arith) clippedOf refl (added-append clippedOne) (λ l. refl)
 
   pub measures-greatest : Measures o (channelCell c greatestAt)
       (λ (r : List Record). topCode greatestCode (flatMap (channelSamples c) r))

@@ -13,7 +13,6 @@ use Rattle.channels.specs.Sample.{samplesOf}
 use Rattle.totals.specs.declared.Total.{Total}
 use Rattle.totals.specs.Total.{noTotal, totalOf, totalsOf}
 use Rattle.index_model.specs.Records.{stretchIn, Record, secondOf, hasOrigin, hasError}
-use Rattle.record.specs.Stretch.{stretchOf}
 use Rattle.index_model.specs.Cells.{
   width,
   channelWidth,

@@ -1,5 +1,5 @@
 -- What is known of a record that the index holds, of its samples and of its row. Assumes nothing.
-use Prim.Native.Nat.{ℕ, zero, suc, _+_, _-_, _*_, _/_, _%_, _<_, _≤_}
+use Prim.Native.Nat.{ℕ, zero, suc, _+_, _-_, _/_, _%_, _<_, _≤_}
 use mathlib.Core.Path.{_≡_, ap, _∙_, subst}
 use mathlib.Core.Bool.{Bool, true, false}
 use mathlib.Core.List.{List}
@@ -10,8 +10,7 @@ use lib.ListN.{getD, length, length-take, length-drop, List·getD-eq-default}
 use Rattle.lists.proofs.Fill.{length-tab}
 use Rattle.lists.proofs.Order.{le-or-lt}
 use Rattle.channels.specs.Sample.{sampleOf, samplesOf}
-use Rattle.fields.specs.Field.{valueOf}
-use Rattle.sample_rates.specs.Rates.{samplesPerRecord, mostSamples}
+use Rattle.sample_rates.specs.Rates.{samplesPerRecord}
 use Rattle.editions.specs.Rates.{sampleRateOf}
 use Rattle.record.proofs.Count.{count-small}
 use Rattle.record.proofs.Accepted.{record-facts, stretch-inside}
@@ -90,7 +89,7 @@ module _ (b : Record) (accepted : refusalOf b ≡ 0) where
   codes-small c (suc (suc zero)) r =
       omega (arith, squares-bound (channelSamples c b) (samples-signed b c), samples-length b c, count-small (b .edition) (b .bytes))
   codes-small c (suc (suc (suc zero))) r =
-      omega (arith, clipped-bound (channelSamples c b), samples-length b c, count-small (b .edition) (b .bytes))
+      omega (arith, clipped-bound (channelSamples c b) (samples-signed b c), samples-length b c, count-small (b .edition) (b .bytes))
   codes-small c (suc (suc (suc (suc zero)))) r = omega (arith, top-most greatest-coding (channelSamples c b) (samples-signed b c))
   codes-small c (suc (suc (suc (suc (suc i))))) r = absurd (let z : ⊥ = omega arith in z)
 

@@ -1,34 +1,46 @@
 -- The running total, one sample after the other, is the total, and has room for the next. Assumes nothing.
-use Prim.Native.Nat.{ℕ, zero, suc, _+_, _*_, _≤_, _<_}
+use Prim.Native.Nat.{ℕ, zero, suc, _+_, _≤_, _<_}
 use mathlib.Core.Path.{_≡_, sym, ap, _∙_}
 use mathlib.Core.List.{List, [], _∷_, _++_, foldl, foldl-append}
-use native.Mathlib.Nat.{lt-irrefl, add-zero}
+use native.Mathlib.Nat.{lt-irrefl}
 use native.Mathlib.Numerals.{add-one}
 use native.Mathlib.Omega.{arith}
-use lib.IntN.{ℤ, pos, negsuc, natAbs, _+ℤ_, +ℤ-idr}
+use lib.IntN.{ℤ, pos, negsuc, _+ℤ_, +ℤ-idr}
 use lib.ListN.{length, length-append}
 use mir.Syntax.{w8, w64}
 use mir.Val.{SFits}
 use Rattle.lists.proofs.Fill.{length-tab}
 use Rattle.totals.specs.declared.Total.{Total}
 use Rattle.channels.specs.Sample.{sampleOf, samplesOf}
-use Rattle.totals.specs.Total.{sumOf, squaresOf, lesser, greater, keptOf, clippedOne, clippedOf, totalOf, totalsOf, countLimit}
+use Rattle.totals.specs.Total.{
+  sumOf,
+  squareOf,
+  squaresOf,
+  lesser,
+  greater,
+  keptOf,
+  clippedOne,
+  clippedOf,
+  totalOf,
+  totalsOf,
+  countLimit,
+}
 use Rattle.totals.specs.Running.{nextOf, Room, runningOf, runningsOf, totalAt, channelNext}
 use Rattle.totals.proofs.Bits.{mag≤abs, abs-sum, byte-abs}
 use Rattle.totals.proofs.Samples.{Bytes, bytes-append, samples-bytes, samples-more}
-use Rattle.totals.proofs.Sums.{sum-append, squares-append, clipped-append, sum-bound, squares-bound, clipped-bound}
+use Rattle.totals.proofs.Sums.{sum-append, added-more, sum-bound, squares-bound, clipped-bound}
 use Rattle.totals.proofs.Extremes.{lesser-start, greater-start}
 
 -- one sample more, at the end of the list
 pub running-more : (l : List ℤ) (x : ℤ) → runningOf (l ++ x ∷ []) ≡ nextOf (runningOf l) x
-unfolding runningOf nextOf sumOf squaresOf clippedOf
+unfolding runningOf nextOf sumOf
 running-more l x i =
     record {
       sum = (sum-append l (x ∷ []) ∙ ap (λ (z : ℤ). sumOf l +ℤ z) (+ℤ-idr x)) i;
-      squares = (squares-append l (x ∷ []) ∙ ap (λ (n : ℕ). squaresOf l + n) (add-zero (natAbs x * natAbs x))) i;
+      squares = added-more squareOf l x i;
       least = foldl-append lesser (pos 127) l (x ∷ []) i;
       greatest = foldl-append greater (negsuc 127) l (x ∷ []) i;
-      clipped = (clipped-append l (x ∷ []) ∙ ap (λ (n : ℕ). clippedOf l + n) (add-zero (clippedOne x))) i;
+      clipped = added-more clippedOne l x i;
     }
 
 -- the first sample replaces the start
@@ -64,7 +76,7 @@ running-room l h n =
     record {
       sums = omega (arith, sum-bound l h);
       squared = omega (arith, squares-bound l h);
-      counted = omega (arith, clipped-bound l);
+      counted = omega (arith, clipped-bound l h);
     }
 
 -- a channel's next total, for its sample k

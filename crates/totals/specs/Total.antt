@@ -14,9 +14,16 @@ unfoldable pub sumOf : List ℤ → ℤ
 sumOf [] = pos 0
 sumOf (x ∷ samples) = x +ℤ sumOf samples
 
-unfoldable pub squaresOf : List ℤ → ℕ
-squaresOf [] = 0
-squaresOf (x ∷ samples) = natAbs x * natAbs x + squaresOf samples
+-- what a rule gives for each sample, added up; 0 for no samples
+unfoldable pub addedOf : (ℤ → ℕ) → List ℤ → ℕ
+addedOf rule [] = 0
+addedOf rule (x ∷ samples) = rule x + addedOf rule samples
+
+abbrev pub squareOf : ℤ → ℕ
+squareOf x = natAbs x * natAbs x
+
+abbrev pub squaresOf : List ℤ → ℕ
+squaresOf samples = addedOf squareOf samples
 
 -- the lesser and the greater of two numbers
 unfoldable pub lesser : ℤ → ℤ → ℤ
@@ -51,9 +58,8 @@ abbrev pub clippedOne : ℤ → ℕ
 clippedOne x = cond (isClipped x) 1 0
 
 -- how many samples are clipped
-unfoldable pub clippedOf : List ℤ → ℕ
-clippedOf [] = 0
-clippedOf (x ∷ samples) = clippedOne x + clippedOf samples
+abbrev pub clippedOf : List ℤ → ℕ
+clippedOf samples = addedOf clippedOne samples
 
 unfoldable pub totalOf : List ℤ → Total
 totalOf samples =

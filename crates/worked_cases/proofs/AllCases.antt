@@ -10,11 +10,11 @@ use Rattle.editions.specs.Rates.{sampleRateOf}
 use Rattle.record.specs.Record.{recordRefusal, headerAnswer}
 use Rattle.frequency_rate.specs.FrequencyRate.{frequencyRateUnits, frequencyRateOf, frequencyRateAnswer}
 use Rattle.channels.specs.Sample.{signedOf}
-use Rattle.totals.specs.Total.{sumOf, squaresOf, lesser, greater, keptOf, isSame, isClipped, clippedOf, totalOf}
+use Rattle.totals.specs.Total.{sumOf, addedOf, lesser, greater, keptOf, isSame, isClipped, totalOf}
 use Rattle.record.specs.Stretch.{recordRate}
 use Rattle.times.specs.SampleTime.{sampleTime, timeRefusal, timeAnswer}
 use Rattle.worked_cases.specs.Cases.{cases, given, said}
 
 pub all-cases : map given cases ≡ map said cases
-unfolding getBits num bitAt decimalValue digits valueOf digitsGood editionOf sampleRateOf lineIn recordRefusal headerAnswer frequencyRateUnits frequencyRateOf frequencyRateAnswer sampleTime timeRefusal timeAnswer recordRate signedOf sumOf squaresOf lesser greater keptOf isSame isClipped clippedOf totalOf
+unfolding getBits num bitAt decimalValue digits valueOf digitsGood editionOf sampleRateOf lineIn recordRefusal headerAnswer frequencyRateUnits frequencyRateOf frequencyRateAnswer sampleTime timeRefusal timeAnswer recordRate signedOf sumOf addedOf lesser greater keptOf isSame isClipped totalOf
 all-cases = refl

@@ -2,7 +2,7 @@ use mathlib.Core.Path.{_≡_, refl, ap, _∙_}
 use Prim.Native.Nat.{_≤_, _-_}
 use native.Mathlib.Nat.{pos-of-ne-zero}
 use native.Mathlib.Omega.{arith}
-use Rattle.totals.specs.Total.{sumOf, squaresOf, keptOf, clippedOf, totalOf, totalsOf}
+use Rattle.totals.specs.Total.{sumOf, addedOf, keptOf, totalOf, totalsOf}
 use Rattle.totals.specs.Running.{runningOf, runningsOf}
 use Rattle.totals.proofs.Running.{runnings-totals}
 use Rattle.totals.proofs.sum_sets.Statement.{statement}
@@ -15,11 +15,11 @@ abbrev μ-loop : tie.MeasureT-loop
 μ-loop stretch count totals₀ k₀ totals k = count - k
 
 returns : tie.Need-returns Inv-loop μ-loop
-unfolding totalsOf totalOf sumOf squaresOf keptOf clippedOf
+unfolding totalsOf totalOf sumOf addedOf keptOf
 returns c = rw (c .if1 .taken)
 
 loop-holds : tie.Need-loop-holds Inv-loop μ-loop
-unfolding runningsOf runningOf sumOf squaresOf clippedOf
+unfolding runningsOf runningOf sumOf addedOf
 loop-holds c = (omega arith, refl)
 
 with-samples-requires : tie.Need-with-samples-requires Inv-loop μ-loop
