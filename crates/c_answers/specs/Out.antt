@@ -13,9 +13,9 @@ use Rattle.listing.specs.declared.ListAnswer.{ListAnswer}
 use Rattle.listing.specs.declared.ListAnswer.the-variants as ListAnswer
 use Rattle.frequency_rate.specs.declared.FrequencyRateAnswer.{FrequencyRateAnswer}
 use Rattle.frequency_rate.specs.declared.FrequencyRateAnswer.the-variants as FrequencyRateAnswer
-use Rattle.monitor.specs.Segments.{mostWords}
 use Rattle.reel.specs.declared.Step.{Step}
 use Rattle.reel.specs.declared.Step.the-variants as Step
+use Rattle.segments.specs.Segments.{mostWords}
 use Rattle.times.specs.declared.TimeAnswer.{TimeAnswer}
 use Rattle.times.specs.declared.TimeAnswer.the-variants as TimeAnswer
 use Rattle.times.specs.declared.PhaseAnswer.{PhaseAnswer}

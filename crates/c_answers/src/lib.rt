@@ -16,8 +16,8 @@ use times::TimeAnswer;
 // What a step answers at the end of a reel: no refusal has this number.
 pub const FINISHED: u8 = 255;
 
-// Bytes of the longest monitor segment, 45 words.
-pub const LONGEST_SEGMENT: usize = 90;
+// Bytes of the longest monitor segment.
+pub const LONGEST_SEGMENT: usize = 2 * segments::MOST_WORDS;
 
 #[repr(C)]
 pub struct FrequencyRateOut {

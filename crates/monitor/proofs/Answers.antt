@@ -10,7 +10,8 @@ use Rattle.answers.specs.Refusal.{_when_, first, _then_}
 use Rattle.record.specs.Record.{recordRefusal}
 use Rattle.answers.proofs.Refusals.{then-some, unless-some, none-applies}
 use Rattle.header.specs.Edition.{noSegments}
-use Rattle.monitor.specs.Segments.{segmentCount, isNoRow}
+use Rattle.segments.specs.Segments.{segmentCount, segmentAt}
+use Rattle.monitor.specs.Search.{isNoRow}
 use Rattle.monitor.specs.Monitor.{isNew, segmentBytes, rowAnswer}
 
 -- the first refusal stands, whatever follows
@@ -33,7 +34,7 @@ module _ (n : ℕ) (this earlier : List ℕ) (row : ℕ) where
   abbrev answerBy : ℕ → ℕ → Bool → Bool → Bool → Bool → Answer (List ℕ)
   answerBy k m lacks none new old =
       unless (k then m then first (26 when lacks ∷ 20 when none ∷ 23 when (not new && not old) ∷ [])) []
-      (cond new (segmentBytes n this row) (segmentBytes n earlier row))
+      (cond new (segmentBytes n this (segmentAt row)) (segmentBytes n earlier (segmentAt row)))
 
   pub this-refused : (recordRefusal n this ≡ 0 → ⊥) → refused [] (recordRefusal n this) ≡ rowAnswer n this earlier row
   this-refused e = stands (recordRefusal n this) _ [] _ e
@@ -63,11 +64,11 @@ module _ (n : ℕ) (this earlier : List ℕ) (row : ℕ) where
         is-row : isNoRow row ≡ false
         is-row = ne-eqb row segmentCount (λ e. omega arith)
 
-        pub new-in-this : isNew n this row ≡ true → accepted (segmentBytes n this row) ≡ rowAnswer n this earlier row
+        pub new-in-this : isNew n this row ≡ true → accepted (segmentBytes n this (segmentAt row)) ≡ rowAnswer n this earlier row
         new-in-this new = sym (λ i. answerBy (p i) (q i) (has i) (is-row i) (new i) (isNew n earlier row))
 
         pub new-in-earlier : isNew n this row ≡ false → isNew n earlier row ≡ true
-            → accepted (segmentBytes n earlier row) ≡ rowAnswer n this earlier row
+            → accepted (segmentBytes n earlier (segmentAt row)) ≡ rowAnswer n this earlier row
         new-in-earlier new old = sym (λ i. answerBy (p i) (q i) (has i) (is-row i) (new i) (old i))
 
         pub new-in-neither : isNew n this row ≡ false → isNew n earlier row ≡ false

@@ -13,27 +13,29 @@ use Rattle.header.specs.Edition.{noSegments}
 use Rattle.record.specs.Record.{recordRefusal}
 use Rattle.answers.specs.Refusal.{_when_, first, _then_}
 use Rattle.answers.proofs.Refusals.{then-zero, none-applies}
-use Rattle.monitor.specs.Segments.{segmentCount, segmentRow, isNoRow, segmentAt, wordCount, mostWords}
+use Rattle.segments.specs.Segments.{segmentCount, segmentAt, wordCount, mostWords}
+use Rattle.segments.proofs.Sound.{sound-segment}
+use Rattle.monitor.specs.Search.{segmentRow, isNoRow}
 use Rattle.monitor.specs.Monitor.{isNew, segmentBytes, rowRefusal, segmentAnswer}
-use Rattle.monitor.proofs.Segments.{sound-words, row-most}
+use Rattle.monitor.proofs.Search.{row-most}
 use Rattle.monitor.proofs.Monitor.{last-sample-word-facts}
 
 -- ## the length of a segment
 
 words-few : (row : ℕ) → row < segmentCount → wordCount (segmentAt row) ≤ mostWords
-words-few row h = sound-words row h .few
+words-few row h = sound-segment row h .most
 
 module _ (n : ℕ) (b : List ℕ) (row : ℕ) (inside : row < segmentCount) where
-  bytes-few : length (segmentBytes n b row) ≤ 2 * mostWords
+  bytes-few : length (segmentBytes n b (segmentAt row)) ≤ 2 * mostWords
   unfolding segmentBytes
   bytes-few = simp length-take (omega (arith, words-few row inside))
 
-  bytes-some : recordRefusal n b ≡ 0 → noSegments n ≡ false → 0 < length (segmentBytes n b row)
+  bytes-some : recordRefusal n b ≡ 0 → noSegments n ≡ false → 0 < length (segmentBytes n b (segmentAt row))
   unfolding segmentBytes
   bytes-some e has =
-      let w = sound-words row inside in
+      let w = sound-segment row inside in
       let f = last-sample-word-facts n b e has in
-      simp (length-take, length-drop) (omega (arith, w .some, w .order, w .end, f .1))
+      simp (length-take, length-drop) (omega (arith, w .first, w .some, w .end, f .1))
 
 -- ## by the refusal
 
@@ -41,8 +43,8 @@ module _ (n : ℕ) (this earlier : List ℕ) (number : ℕ) where
   abbrev row : ℕ
   row = segmentRow number
 
-  abbrev chosen : List ℕ
-  chosen = cond (isNew n this row) (segmentBytes n this row) (segmentBytes n earlier row)
+  abbrev chosen : Bool → List ℕ
+  chosen t = cond t (segmentBytes n this (segmentAt row)) (segmentBytes n earlier (segmentAt row))
 
   abbrev refusal : ℕ
   refusal = rowRefusal n this earlier row
@@ -58,16 +60,16 @@ module _ (n : ℕ) (this earlier : List ℕ) (number : ℕ) where
         let known = none-applies tests 1 tt (q .1) in
         (p .0, q .0, none-applies tests 0 tt (q .1), omega (arith, row-most number, eqb-false row segmentCount known))
 
-    by-new : (t : Bool) → 0 < length (cond t (segmentBytes n this row) (segmentBytes n earlier row))
+    by-new : (t : Bool) → 0 < length (chosen t)
     by-new true = bytes-some n this row (records .3) (records .0) (records .2)
     by-new false = bytes-some n earlier row (records .3) (records .1) (records .2)
 
-    few-by-new : (t : Bool) → length (cond t (segmentBytes n this row) (segmentBytes n earlier row)) ≤ 2 * mostWords
+    few-by-new : (t : Bool) → length (chosen t) ≤ 2 * mostWords
     few-by-new true = bytes-few n this row (records .3)
     few-by-new false = bytes-few n earlier row (records .3)
 
   abbrev by : Bool → Answer (List ℕ)
-  by t = cond t (accepted chosen) (refused [] refusal)
+  by t = cond t (accepted (chosen (isNew n this row))) (refused [] refusal)
 
   -- no refusal: there are bytes
   pub some-given : segmentAnswer n this earlier number .number ≡ 0 → 0 < length (segmentAnswer n this earlier number .value)

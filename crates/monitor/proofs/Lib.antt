@@ -1,4 +1,4 @@
-pub mod Segments
+pub mod Search
 pub mod Monitor
 pub mod Answers
 pub mod Places

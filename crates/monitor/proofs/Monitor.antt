@@ -13,8 +13,8 @@ use Rattle.header.proofs.Sound.{of-editions}
 use Rattle.record.specs.Record.{recordRefusal}
 use Rattle.record.proofs.Accepted.{record-facts, stretch-inside}
 use Rattle.record.specs.Stretch.{recordRate}
-use Rattle.monitor.specs.declared.SegmentWords.{SegmentWords}
-use Rattle.monitor.specs.Segments.{monitorWords, firstWord, wordCount, segmentAt}
+use Rattle.segments.specs.declared.Segment.{Segment}
+use Rattle.segments.specs.Segments.{monitorWords, firstWord, wordCount, segmentAt}
 use Rattle.monitor.specs.Monitor.{lastSampleWordOf, mostLastWord, isNew, segmentBytes}
 use Rattle.monitor.specs.Shown.{part}
 
@@ -45,10 +45,10 @@ module _
     (n : ℕ)
     (b : List ℕ)
     (m row : ℕ)
-    (s : SegmentWords)
+    (s : Segment)
     (m-is : m ≡ lastSampleWordOf n b)
     (s-is : s ≡ segmentAt row) where
-  pub stretch-bytes : part (2 * (m + firstWord s - 1)) (2 * (m + firstWord s - 1) + 2 * wordCount s) b ≡ segmentBytes n b row
+  pub stretch-bytes : part (2 * (m + firstWord s - 1)) (2 * (m + firstWord s - 1) + 2 * wordCount s) b ≡ segmentBytes n b (segmentAt row)
   unfolding segmentBytes
   stretch-bytes =
       ap (λ (k : ℕ). take k (drop (2 * (m + firstWord s - 1)) b)) (length-of (2 * (m + firstWord s - 1)) (2 * wordCount s))

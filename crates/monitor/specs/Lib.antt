@@ -1,3 +1,3 @@
-pub mod Segments
+pub mod Search
 pub mod Monitor
 pub mod Shown

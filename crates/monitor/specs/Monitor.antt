@@ -11,7 +11,9 @@ use Rattle.answers.specs.Answer.{Answer, unless}
 use Rattle.answers.specs.Refusal.{_when_, first, _then_}
 use Rattle.record.specs.Record.{recordRefusal}
 use Rattle.record.specs.Stretch.{recordRate}
-use Rattle.monitor.specs.Segments.{segmentRow, isNoRow, segmentAt, firstWord, wordCount}
+use Rattle.segments.specs.declared.Segment.{Segment}
+use Rattle.segments.specs.Segments.{segmentAt, firstWord, wordCount}
+use Rattle.monitor.specs.Search.{segmentRow, isNoRow}
 
 -- N of a record of the edition n, by its own rate
 unfoldable pub lastSampleWordOf : ℕ → List ℕ → ℕ
@@ -33,9 +35,9 @@ monitorBit n b w k = getBits (8 * monitorByte n b w + (k - 1)) 1 b
 unfoldable pub isNew : ℕ → List ℕ → ℕ → Bool
 isNew n b row = eqb (monitorBit n b 1 (row + 1)) 1
 
--- the bytes of the segment of a row
-unfoldable pub segmentBytes : ℕ → List ℕ → ℕ → List ℕ
-segmentBytes n b row = take (2 * wordCount (segmentAt row)) (drop (monitorByte n b (firstWord (segmentAt row))) b)
+-- the bytes of a segment in the record
+unfoldable pub segmentBytes : ℕ → List ℕ → Segment → List ℕ
+segmentBytes n b s = take (2 * wordCount s) (drop (monitorByte n b (firstWord s)) b)
 
 -- this record is checked, 25 among its refusals, then the earlier one, then 26, 20 and 23
 abbrev pub rowRefusal : ℕ → List ℕ → List ℕ → ℕ → ℕ
@@ -52,7 +54,7 @@ rowRefusal n this earlier row =
 abbrev pub rowAnswer : ℕ → List ℕ → List ℕ → ℕ → Answer (List ℕ)
 rowAnswer n this earlier row =
     unless (rowRefusal n this earlier row) []
-    (cond (isNew n this row) (segmentBytes n this row) (segmentBytes n earlier row))
+    (cond (isNew n this row) (segmentBytes n this (segmentAt row)) (segmentBytes n earlier (segmentAt row)))
 
 -- by the segment's number
 unfoldable pub segmentAnswer : ℕ → List ℕ → List ℕ → ℕ → Answer (List ℕ)

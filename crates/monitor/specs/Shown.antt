@@ -4,6 +4,7 @@ use mathlib.Core.Path.{_≡_}
 use mathlib.Core.List.{List, []}
 use lib.ListN.{length, take, drop}
 use Rattle.answers.specs.Answer.{Answer, accepted, refused}
+use Rattle.segments.specs.Segments.{segmentAt}
 use Rattle.monitor.specs.declared.Stretch.{Stretch}
 use Rattle.monitor.specs.declared.Place.{Place}
 use Rattle.monitor.specs.declared.Place.the-variants.{This, Earlier, Refused}
@@ -17,7 +18,7 @@ part start end b = take (end - start) (drop start b)
 pub record StretchOf (n : ℕ) (b : List ℕ) (row : ℕ) (s : Stretch) : Type 0 where
   pub order : s .start ≤ s .end
   pub inside : s .end ≤ length b
-  pub bytes : part (s .start) (s .end) b ≡ segmentBytes n b row
+  pub bytes : part (s .start) (s .end) b ≡ segmentBytes n b (segmentAt row)
   pub new : s .new ≡ isNew n b row
 
 abbrev pub shownPlace : Place → List ℕ → List ℕ → Answer (List ℕ)

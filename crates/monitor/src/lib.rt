@@ -5,25 +5,11 @@ ghost use Prim.Native.Nat.{_+_, _*_, _≤_, _<_};
 ghost use lib.ListN.{length};
 ghost use Rattle.header.specs.Edition.{noSegments};
 ghost use Rattle.record.specs.Record.{recordRefusal};
-ghost use Rattle.monitor.specs.Segments.{monitorWords, segmentCount, segmentRow, segmentAt, SoundWords};
+ghost use Rattle.segments.specs.Segments.{monitorWords, segmentCount, segmentAt, SoundSegment};
+ghost use Rattle.monitor.specs.Search.{segmentRow};
 ghost use Rattle.monitor.specs.Monitor.{lastSampleWordOf, mostLastWord, rowAnswer, segmentAnswer};
 ghost use Rattle.monitor.specs.Shown.{StretchOf, shownPlace, Inside};
-
-// A row of the table: a segment's number, and its first and last word, counted from 1 after the samples.
-struct SegmentWords(u64, usize, usize);
-
-const SEGMENT_COUNT: usize = 7;
-
-// In the order of the status bits.
-const SEGMENTS: [SegmentWords; SEGMENT_COUNT] = [
-    SegmentWords(7, 6, 50),
-    SegmentWords(5, 51, 63),
-    SegmentWords(2, 64, 78),
-    SegmentWords(6, 79, 93),
-    SegmentWords(10, 94, 108),
-    SegmentWords(4, 109, 128),
-    SegmentWords(8, 129, 148),
-];
+use segments::Segment;
 
 // A segment in one record: from byte `start` up to byte `end`, and whether the status bit says new data.
 struct Stretch {
@@ -39,21 +25,21 @@ enum Place {
     Refused(u8),
 }
 
-// A row of the table; its words are among the monitor words.
-fn words_of(row: usize) -> SegmentWords
+// A row of the list of segments; its words are among the monitor words.
+fn words_of(row: usize) -> Segment
     requires { ⌜ row < segmentCount ⌝ }
-    ensures { λ r. ⌜ (r ≡ segmentAt row) × SoundWords r ⌝ }
+    ensures { λ r. ⌜ (r ≡ segmentAt row) × SoundSegment r ⌝ }
 {
-    SEGMENTS[row]
+    segments::segment_at(row)
 }
 
-// The table's row, from 0, of a segment's number, or the count of rows where none has it.
+// The row, from 0, of a segment's number, or the count of rows where none has it.
 fn segment_row(number: u64) -> usize
     ensures { λ r. ⌜ (r ≡ segmentRow number) × (r ≤ segmentCount) ⌝ }
 {
     let mut row: usize = 0;
-    while row < SEGMENT_COUNT {
-        let SegmentWords(own, _, _) = words_of(row);
+    while row < segments::SEGMENT_COUNT {
+        let Segment(own, _, _) = words_of(row);
         if own == number {
             return row;
         }
@@ -78,9 +64,9 @@ fn stretch_in(edition: u64, bytes: &[u8], row: usize) -> Stretch
     ensures { λ r. ⌜ StretchOf edition (now (bytes .entry)) row r ⌝ }
 {
     let last_word = last_sample_word(edition, bytes);
-    let SegmentWords(_, first, last) = words_of(row);
+    let Segment(_, first, words) = words_of(row);
     let start = 2 * (last_word + first - 1);
-    let end = start + 2 * (last + 1 - first);
+    let end = start + 2 * words;
     let status_bit = row + 1;
     let new = bits::read_bits(bytes, 16 * last_word + status_bit - 1, 1) == 1;
     Stretch { start, end, new }
@@ -124,7 +110,7 @@ fn find_place(edition: u64, this: &[u8], earlier: &[u8], number: u64) -> Place
     }
     let none = editions::no_segments(edition);
     let row = segment_row(number);
-    let no_row = answers::check(20, row == SEGMENT_COUNT, 0);
+    let no_row = answers::check(20, row == segments::SEGMENT_COUNT, 0);
     let no_segment = answers::check(26, none, no_row);
     if no_segment != 0 {
         return Place::Refused(no_segment);

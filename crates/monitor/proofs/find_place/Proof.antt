@@ -4,7 +4,7 @@ use mathlib.Core.Bool.{cond}
 use mathlib.Core.List.{[]}
 use denote.Ref.{now}
 use Rattle.answers.specs.Answer.{refused}
-use Rattle.monitor.specs.Segments.{segmentRow}
+use Rattle.monitor.specs.Search.{segmentRow}
 use Rattle.monitor.specs.Monitor.{rowAnswer, segmentAnswer}
 use Rattle.monitor.proofs.Answers.{unanswered, has-segment, this-refused, earlier-refused, no-segment}
 use borrow.Author.Needs.{needs}

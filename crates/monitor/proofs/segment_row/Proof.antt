@@ -3,8 +3,9 @@ use mathlib.Core.Path.{_≡_, ap, sym, _∙_}
 use native.Mathlib.Omega.{arith}
 use lib.ListN.{drop}
 use borrow.Author.Needs.{needs}
-use Rattle.monitor.specs.Segments.{segments, segmentCount, segmentNumber, rowIn, segmentRow}
-use Rattle.monitor.proofs.Segments.{found, passed, none-left}
+use Rattle.segments.specs.Segments.{segments, segmentCount, segmentNumber}
+use Rattle.monitor.specs.Search.{rowIn, segmentRow}
+use Rattle.monitor.proofs.Search.{found, passed, none-left}
 use Rattle.monitor.proofs.segment_row.Statement.{statement}
 use Rattle.monitor.proofs.segment_row.Tie as tie
 

@@ -1,0 +1,82 @@
+-- The seven segments of the power monitor as one list, and its rule. FORMAT, "Monitor segments".
+use Prim.Native.Nat.{ℕ, _+_, _-_, _≤_, max}
+use mathlib.Core.Bool.{Bool, true, _&&_}
+use mathlib.Core.List.{List, [], _∷_}
+use lib.Dec.{eqb, leb}
+use lib.ListN.{length, getD}
+use Rattle.lists.specs.Tests.{all}
+use Rattle.sample_rates.specs.Rates.{layout1985}
+use Rattle.segments.specs.declared.Segment.{Segment}
+
+-- a row: the segment's number, its first word, counted from 1 after N, and how many words it has
+abbrev pub segment : ℕ → ℕ → ℕ → Segment
+segment number first words = record { 0 = number; 1 = first; 2 = words }
+
+-- Figure RSC-11-10-3 of 1985 as a list, in the order of the status bits. A row has the number in the figure's SEGMENT .. DATA,
+-- the WORD at which that begins, and the count in its (.. WORDS); behind it stands what the figure calls the segment
+abbrev pub segments : List Segment
+segments =
+    segment 7 6 45 ∷  -- CONFIGURATION SEGMENT
+    segment 5 51 13 ∷  -- STATUS SEGMENT
+    segment 2 64 15 ∷  -- 64-M NOISE TEMPERATURE SEGMENT
+    segment 6 79 15 ∷  -- 34-M STANDARD NOISE TEMPERATURE SEGMENT (the figure misprints 64 for 79)
+    segment 10 94 15 ∷  -- 34-M HEA NOISE TEMPERATURE SEGMENT
+    segment 4 109 20 ∷  -- SIGNAL LEVEL SEGMENT - SLE #1
+    segment 8 129 20 ∷  -- SIGNAL LEVEL SEGMENT - SLE #2
+    []
+
+abbrev pub segmentCount : ℕ
+segmentCount = length segments
+
+-- what stands past the end of the list
+abbrev pub noSegment : Segment
+noSegment = segment 0 0 0
+
+-- what a row says
+abbrev pub segmentNumber : Segment → ℕ
+segmentNumber s = s .0
+
+abbrev pub firstWord : Segment → ℕ
+firstWord s = s .1
+
+abbrev pub wordCount : Segment → ℕ
+wordCount s = s .2
+
+abbrev pub lastWord : Segment → ℕ
+lastWord s = firstWord s + wordCount s - 1
+
+abbrev pub segmentAt : ℕ → Segment
+segmentAt row = getD segments row noSegment
+
+-- the words of the longest segment of a list
+abbrev pub mostIn : List Segment → ℕ
+mostIn [] = 0
+mostIn (s ∷ ss) = max (wordCount s) (mostIn ss)
+
+abbrev pub mostWords : ℕ
+mostWords = mostIn segments
+
+-- the words after the samples, in an edition that has segments: 150, as its layout says
+abbrev pub monitorWords : ℕ
+monitorWords = layout1985 .monitor-words
+
+-- a segment has words, and they are among the monitor words
+pub record SoundSegment (s : Segment) : Type 0 where
+  pub first : 1 ≤ firstWord s
+  pub some : 1 ≤ wordCount s
+  pub most : wordCount s ≤ mostWords
+  pub end : lastWord s ≤ monitorWords
+
+-- the one test of the list: each segment starts at the word after the last one of the row before, has a word but no more than the
+-- longest, and ends by the last monitor word
+abbrev pub wordTests : ℕ → Segment → List Bool
+wordTests before s =
+    eqb (firstWord s) (before + 1) ∷
+    leb 1 (wordCount s) ∷
+    leb (wordCount s) mostWords ∷
+    leb (lastWord s) monitorWords ∷
+    []
+
+abbrev pub soundAfter : ℕ → List Segment → Bool
+soundAfter before [] = true
+soundAfter before (s ∷ ss) = all (wordTests before s) && soundAfter (lastWord s) ss
