@@ -393,6 +393,10 @@ static void refused_times(const example *given) {
            cut.refusal, cut.microseconds, past.refusal, past.microseconds);
 }
 
+static int last_byte(const odr_segment_answer *answer) {
+    return answer->length == 0 ? 0 : answer->bytes[answer->length - 1];
+}
+
 /* The edition is that of the earlier record. */
 static void segment(const char *name, const example *this_record, const example *earlier, uint64_t number) {
     odr_segment_answer answer =
@@ -401,9 +405,8 @@ static void segment(const char *name, const example *this_record, const example 
     for (size_t i = 0; i < ODR_LONGEST_SEGMENT; i++) {
         others += answer.bytes[i] != 0;
     }
-    size_t last = answer.length == 0 ? 0 : answer.length - 1;
     printf("segment %s %u, %zu bytes: %d to %d, %d not 0\n", name, answer.refusal, answer.length, answer.bytes[0],
-           answer.bytes[last], others);
+           last_byte(&answer), others);
 }
 
 /* Segment 7, status bit 1, is monitor words 6 to 50: bytes 10 to 99 from byte 480 on, and is new in the earlier record alone.
@@ -424,6 +427,22 @@ static void segments(void) {
     segment("1", &this_record, &earlier, 1);
     earlier.length = 79;
     segment("1 after 79 bytes", &this_record, &earlier, 1);
+}
+
+/* All seven, by the paper's first and last words and twice its counts: each monitor word has its own number in its second byte, and
+ * in its first 254, so that the status says of every segment that it is new. */
+static void numbered_segments(void) {
+    static const uint64_t numbers[] = {7, 5, 2, 6, 10, 4, 8};
+    example r = of_1985;
+    for (int word = 1; word <= 150; word++) {
+        r.bytes[MONITOR + 2 * word - 2] = 254;
+        r.bytes[MONITOR + 2 * word - 1] = (uint8_t)word;
+    }
+    for (size_t i = 0; i < COUNT(numbers); i++) {
+        odr_segment_answer answer = odr_segment(r.edition, r.bytes, r.length, r.bytes, r.length, numbers[i]);
+        printf("segment %" PRIu64 " of numbered words %u, %zu bytes: %d to %d\n", numbers[i], answer.refusal, answer.length,
+               answer.bytes[1], last_byte(&answer));
+    }
 }
 
 /* 1992 has no segments: 26, of any number, after the refusals of this record, where one of 1985 is 3, and of the earlier one. */
@@ -850,6 +869,7 @@ int main(void) {
     set_1992();
     one_edition(&of_1985);
     segments();
+    numbered_segments();
     one_edition(&of_1992);
     frequency_offsets(&of_1992);
     no_segments();

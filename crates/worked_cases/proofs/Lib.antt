@@ -1,2 +1,2 @@
 pub mod AllCases
-pub mod Words
+pub mod Segments

@@ -1,9 +1,9 @@
--- No other start and no other length of a segment would keep the promise of the segment question: one record tells them all
--- apart. Assumes nothing.
+-- The segment question's promise holds of one list of starts and lengths alone: there is a record on which every other start or
+-- length gives another answer. Assumes nothing.
 use Prim.Native.Nat.{ℕ, zero, suc, _+_, _-_, _*_, _≤_, _<_, min}
 use mathlib.Core.Path.{_≡_, refl, ap, sym, _∙_}
 use mathlib.Core.Bool.{true, false}
-use mathlib.Core.List.{List, []}
+use mathlib.Core.List.{List}
 use mathlib.Core.Logic.{⊎-elim}
 use native.Mathlib.Nat.{le-of-suc-le-suc, not-suc-le-zero}
 use native.Mathlib.Omega.{arith}
@@ -64,7 +64,7 @@ in-words w (suc n) (suc i) h =
     let e : 2 * suc i + 1 ≡ suc (suc (2 * i + 1)) = omega arith in
     ap (λ (k : ℕ). getD (wordsFrom w (suc n)) k 0) e ∙ in-words (suc w) n i (le-of-suc-le-suc h) ∙ omega arith
 
--- what the answer begins with, by its first word
+-- of word f after N, offsets included
 second-byte : (f : ℕ) → 1 ≤ f → f ≤ 155 → getD numbered (2 * (240 + f - 1) + 1) 0 ≡ f
 second-byte f some most =
     let e : 2 * (240 + f - 1) + 1 ≡ 480 + (2 * (f - 1) + 1) = omega arith in
@@ -82,8 +82,9 @@ told f g some e = ⊎-elim within past (le-or-lt f 155)
       where
         none : f ≤ 0 → f ≡ g
         none h =
-            let z : f ≡ 0 = omega arith in
-            let k : 0 ≡ g = ap (λ (k : ℕ). getD numbered (2 * (240 + k - 1) + 1) 0) (sym z) ∙ e in absurd (omega (arith, k, some))
+            let at-0 : 0 ≡ f = omega arith in
+            let e-0 : 0 ≡ g = ap (λ (k : ℕ). getD numbered (2 * (240 + k - 1) + 1) 0) at-0 ∙ e in
+            absurd (omega (arith, e-0, some))
 
     past : 155 < f → f ≡ g
     past h =
@@ -130,14 +131,23 @@ module _ (s t : Segment) (sound : SoundSegment t) (same : segmentBytes 1985 numb
   same-count : wordCount s ≡ wordCount t
   same-count = omega (arith, sizes, same-first, sound .first, sound .some, sound .end)
 
--- a list that has another start or another length for a segment gives another answer on this record
-pub only-these-words : (number : ℕ) → segmentRow number < segmentCount → (s : Segment)
-    → segmentAnswer 1985 numbered numbered number ≡ accepted (segmentBytes 1985 numbered s)
-    → (firstWord s ≡ firstWord (segmentAt (segmentRow number))) × (wordCount s ≡ wordCount (segmentAt (segmentRow number)))
-unfolding segmentAnswer
-only-these-words number h s e =
-    let row = segmentRow number in
-    let given = new-in-this 1985 numbered numbered row is-accepted is-accepted has-segments h (is-new row h) in
-    let same = ap (λ (a : Answer (List ℕ)). a .value) (sym (given ∙ e)) in
-    let sound = sound-segment row h in
-    (same-first s (segmentAt row) sound same, same-count s (segmentAt row) sound same)
+-- ## what the segment question answers
+
+module _ (number : ℕ) (h : segmentRow number < segmentCount) where
+  abbrev own : Segment
+  own = segmentAt (segmentRow number)
+
+  -- on this record it is the bytes of the list's row
+  pub answered : segmentAnswer 1985 numbered numbered number ≡ accepted (segmentBytes 1985 numbered own)
+  unfolding segmentAnswer
+  answered =
+      let row = segmentRow number in
+      sym (new-in-this 1985 numbered numbered row is-accepted is-accepted has-segments h (is-new row h))
+
+  -- and no row with another start or another length has these bytes: a list with one number changed does not keep the promise
+  pub only-these-words : (s : Segment) → segmentAnswer 1985 numbered numbered number ≡ accepted (segmentBytes 1985 numbered s)
+      → (firstWord s ≡ firstWord own) × (wordCount s ≡ wordCount own)
+  only-these-words s e =
+      let same = ap (λ (a : Answer (List ℕ)). a .value) (sym e ∙ answered) in
+      let sound = sound-segment (segmentRow number) h in
+      (same-first s own sound same, same-count s own sound same)
