@@ -1,4 +1,4 @@
-// The segments of the power monitor, and which of two records has new data of one. FORMAT, "Monitor segments", "Refusal numbers".
+// The segment question: which of two records has new data of a segment, and its bytes. FORMAT, "Monitor segments", "Refusal numbers".
 ghost use mathlib.Core.Path.{_≡_};
 ghost use mathlib.Core.Bool.{false};
 ghost use Prim.Native.Nat.{_+_, _*_, _≤_, _<_};
@@ -9,6 +9,7 @@ ghost use Rattle.segments.specs.Segments.{monitorWords, segmentCount, segmentAt
 ghost use Rattle.monitor.specs.Search.{segmentRow};
 ghost use Rattle.monitor.specs.Monitor.{lastSampleWordOf, mostLastWord, rowAnswer, segmentAnswer};
 ghost use Rattle.monitor.specs.Shown.{StretchOf, shownPlace, Inside};
+use segments::SEGMENT_COUNT;
 use segments::Segment;
 
 // A segment in one record: from byte `start` up to byte `end`, and whether the status bit says new data.
@@ -38,7 +39,7 @@ fn segment_row(number: u64) -> usize
     ensures { λ r. ⌜ (r ≡ segmentRow number) × (r ≤ segmentCount) ⌝ }
 {
     let mut row: usize = 0;
-    while row < segments::SEGMENT_COUNT {
+    while row < SEGMENT_COUNT {
         let Segment(own, _, _) = words_of(row);
         if own == number {
             return row;
@@ -110,7 +111,7 @@ fn find_place(edition: u64, this: &[u8], earlier: &[u8], number: u64) -> Place
     }
     let none = editions::no_segments(edition);
     let row = segment_row(number);
-    let no_row = answers::check(20, row == segments::SEGMENT_COUNT, 0);
+    let no_row = answers::check(20, row == SEGMENT_COUNT, 0);
     let no_segment = answers::check(26, none, no_row);
     if no_segment != 0 {
         return Place::Refused(no_segment);
