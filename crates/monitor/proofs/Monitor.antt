@@ -48,7 +48,8 @@ module _
     (s : Segment)
     (m-is : m ≡ lastSampleWordOf n b)
     (s-is : s ≡ segmentAt row) where
-  pub stretch-bytes : part (2 * (m + firstWord s - 1)) (2 * (m + firstWord s - 1) + 2 * wordCount s) b ≡ segmentBytes n b (segmentAt row)
+  pub stretch-bytes : part (2 * (m + firstWord s - 1)) (2 * (m + firstWord s - 1) + 2 * wordCount s) b
+      ≡ segmentBytes n b (segmentAt row)
   unfolding segmentBytes
   stretch-bytes =
       ap (λ (k : ℕ). take k (drop (2 * (m + firstWord s - 1)) b)) (length-of (2 * (m + firstWord s - 1)) (2 * wordCount s))

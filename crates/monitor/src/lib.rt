@@ -1,4 +1,5 @@
-// The segment question: which of two records has new data of a segment, and its bytes. FORMAT, "Monitor segments", "Refusal numbers".
+// The segment question: which of two records has new data of a segment, and its bytes. FORMAT, "Monitor segments", "Refusal
+// numbers".
 ghost use mathlib.Core.Path.{_≡_};
 ghost use mathlib.Core.Bool.{false};
 ghost use Prim.Native.Nat.{_+_, _*_, _≤_, _<_};

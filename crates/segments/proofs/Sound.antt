@@ -12,11 +12,11 @@ use Rattle.lists.proofs.Truth.{left, right, each, holds}
 use Rattle.segments.specs.declared.Segment.{Segment}
 use Rattle.segments.specs.Segments.{segments, segmentCount, noSegment, firstWord, lastWord, wordCount, segmentAt, SoundSegment, wordTests, soundAfter}
 
--- the last words, which the list does not have, are those of the paper: the counts decide
+-- the last words, which the list does not have, come out as the paper has them, so the starts and the counts belong together
 last-words : map lastWord segments ≡ 50 ∷ 63 ∷ 78 ∷ 93 ∷ 108 ∷ 128 ∷ 148 ∷ []
 last-words = refl
 
--- the one computed test: words 1 to 5 are no segment's
+-- the one computed test; the words before the first segment are the status and four more
 segments-sound : T (soundAfter 5 segments)
 segments-sound = tt
 

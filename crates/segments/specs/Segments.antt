@@ -60,7 +60,7 @@ mostWords = mostIn segments
 abbrev pub monitorWords : ℕ
 monitorWords = layout1985 .monitor-words
 
--- a segment has words, and they are among the monitor words
+-- a segment has words, no more than the longest, and they are among the monitor words
 pub record SoundSegment (s : Segment) : Type 0 where
   pub first : 1 ≤ firstWord s
   pub some : 1 ≤ wordCount s
