@@ -12,8 +12,8 @@ use Rattle.segments.specs.declared.Segment.{Segment}
 abbrev pub segment : ℕ → ℕ → ℕ → Segment
 segment number first words = record { 0 = number; 1 = first; 2 = words }
 
--- Figure RSC-11-10-3 of 1985 as a list, in the order of the status bits. A row has the number in the figure's SEGMENT .. DATA,
--- the WORD at which that begins, and the count in its (.. WORDS); behind it stands what the figure calls the segment
+-- Figure RSC-11-10-3 of 1985 as a list, in the order of the status bits; behind each row what the figure calls the segment. The
+-- columns: the number in SEGMENT .. DATA, the WORD at which that begins, the count in (.. WORDS)
 abbrev pub segments : List Segment
 segments =
     segment 7 6 45 ∷  -- CONFIGURATION SEGMENT

@@ -7,8 +7,8 @@ pub struct Segment(pub u64, pub usize, pub usize);
 
 pub const SEGMENT_COUNT: usize = 7;
 
-// Figure RSC-11-10-3 of 1985 as a list, in the order of the status bits. A row has the number in the figure's SEGMENT .. DATA,
-// the WORD at which that begins, and the count in its (.. WORDS); behind it stands what the figure calls the segment.
+// Figure RSC-11-10-3 of 1985 as a list, in the order of the status bits; behind each row what the figure calls the segment. The
+// columns: the number in SEGMENT .. DATA, the WORD at which that begins, the count in (.. WORDS).
 const SEGMENTS: [Segment; SEGMENT_COUNT] = [
     Segment(7, 6, 45), // CONFIGURATION SEGMENT
     Segment(5, 51, 13), // STATUS SEGMENT
