@@ -1,5 +1,4 @@
--- An answer has room for every segment: no segment is longer than its 90 bytes, so that the first ones are the segment. Assumes
--- nothing.
+-- An answer has room for every segment: none is longer than its bytes, so that the first ones are the segment. Assumes nothing.
 use Prim.Native.Nat.{ℕ, _≤_}
 use mathlib.Core.Path.{_≡_, _∙_}
 use mathlib.Core.List.{List}

@@ -1,5 +1,5 @@
 -- `segment` bears no number; `segment_refusal`, asked the same, does. The two are one answer: there are bytes exactly where
--- nothing is refused, and never more than 90 of them. Assumes nothing.
+-- nothing is refused, and never more than the longest segment has. Assumes nothing.
 use Prim.Native.Nat.{ℕ, _*_, _≤_, _<_}
 use mathlib.Core.Path.{_≡_, refl}
 use mathlib.Core.Bool.{Bool, true, false, cond, not, _&&_}
@@ -13,7 +13,7 @@ use Rattle.header.specs.Edition.{noSegments}
 use Rattle.record.specs.Record.{recordRefusal}
 use Rattle.answers.specs.Refusal.{_when_, first, _then_}
 use Rattle.answers.proofs.Refusals.{then-zero, none-applies}
-use Rattle.segments.specs.Segments.{segmentCount, segmentAt, wordCount, mostWords}
+use Rattle.segments.specs.Segments.{segmentCount, segmentAt, mostWords}
 use Rattle.segments.proofs.Sound.{sound-segment}
 use Rattle.monitor.specs.Search.{segmentRow, isNoRow}
 use Rattle.monitor.specs.Monitor.{isNew, segmentBytes, rowRefusal, segmentAnswer}
@@ -22,13 +22,10 @@ use Rattle.monitor.proofs.Monitor.{last-sample-word-facts}
 
 -- ## the length of a segment
 
-words-few : (row : ℕ) → row < segmentCount → wordCount (segmentAt row) ≤ mostWords
-words-few row h = sound-segment row h .most
-
 module _ (n : ℕ) (b : List ℕ) (row : ℕ) (inside : row < segmentCount) where
   bytes-few : length (segmentBytes n b (segmentAt row)) ≤ 2 * mostWords
   unfolding segmentBytes
-  bytes-few = simp length-take (omega (arith, words-few row inside))
+  bytes-few = simp length-take (omega (arith, sound-segment row inside .most))
 
   bytes-some : recordRefusal n b ≡ 0 → noSegments n ≡ false → 0 < length (segmentBytes n b (segmentAt row))
   unfolding segmentBytes
@@ -89,7 +86,7 @@ module _ (n : ℕ) (this earlier : List ℕ) (number : ℕ) where
       by-test true k = absurd (k refl)
       by-test false k = refl
 
-  -- no segment has more than 45 words
+  -- no segment has more words than the longest
   pub at-most : length (segmentAnswer n this earlier number .value) ≤ 2 * mostWords
   unfolding segmentAnswer
   at-most = by-test (eqb refusal 0) refl

@@ -1,5 +1,5 @@
 -- The list of segments against the rest of the figure, and what its one computed test gives of each row. Assumes nothing.
-use Prim.Native.Nat.{ℕ, zero, suc, _+_, _≤_, _<_}
+use Prim.Native.Nat.{ℕ, zero, suc, _+_, _<_}
 use mathlib.Core.Path.{_≡_, refl}
 use mathlib.Core.List.{List, [], _∷_, map}
 use native.Mathlib.Nat.{le-of-suc-le-suc, not-suc-le-zero}
@@ -10,7 +10,7 @@ use borrow.Author.Tests.{eqb-true}
 use Rattle.lists.specs.Tests.{all}
 use Rattle.lists.proofs.Truth.{left, right, each, holds}
 use Rattle.segments.specs.declared.Segment.{Segment}
-use Rattle.segments.specs.Segments.{segments, segmentCount, noSegment, firstWord, lastWord, wordCount, segmentAt, SoundSegment, wordTests, soundAfter}
+use Rattle.segments.specs.Segments.{segments, segmentCount, noSegment, firstWord, lastWord, segmentAt, SoundSegment, wordTests, soundAfter}
 
 -- the last words, which the list does not have, come out as the paper has them, so the starts and the counts belong together
 last-words : map lastWord segments ≡ 50 ∷ 63 ∷ 78 ∷ 93 ∷ 108 ∷ 128 ∷ 148 ∷ []
