@@ -1,8 +1,8 @@
 pub mod Line
 pub mod Shortest
 pub mod Longest
-pub mod Writing
-pub mod Left
+pub mod Turns
+pub mod Again
 pub mod Answers
 pub mod Cases
 pub mod Enough

@@ -12,8 +12,8 @@ use Rattle.header.specs.Rows.{clockOrigin, recordNumber, readback}
 use Rattle.frequency_rate.specs.FrequencyRate.{frequencyRateOf}
 use Rattle.record.specs.Record.{recordRefusal}
 use Rattle.times.specs.SampleTime.{sampleTime}
-use Rattle.reel.specs.Reel.{Found, accepted, finished, refused}
-use Rattle.reel.specs.Walk.{Walk, walk}
+use Rattle.reel.specs.Reel.{Found, accepted, finished, refused, stepAt, recordAt}
+use Rattle.reel.specs.Walk.{Walk, isRecord, walkFrom, walk}
 use Rattle.text.specs.declared.Columns.{Columns}
 use Rattle.text.specs.Text.{headerLine, recordLine, refusedLine, lineLength}
 use Rattle.text.specs.Placed.{refusalAt}
@@ -51,6 +51,15 @@ lastText (refused n) = refusedLine n
 -- the lines of a walk: those of its records, and that of the refusal that ends it
 abbrev pub walkText : Walk → List ℕ
 walkText w = recordTexts (w .records) ++ lastText (w .last)
+
+-- those of the walk from a place on: no reel has more records than bytes
+abbrev pub textFrom : List ℕ → ℕ → List ℕ
+textFrom reel place = walkText (walkFrom 1985 reel (length reel) place)
+
+-- of them, the line of what stands at the place: a record's, or a refusal's; nothing at the end of the reel
+unfoldable pub turnText : List ℕ → ℕ → List ℕ
+turnText reel place =
+    cond (isRecord (stepAt 1985 reel place)) (recordText (recordAt 1985 reel place)) (lastText (stepAt 1985 reel place))
 
 -- the header line comes first; 24 is judged before any record
 unfoldable pub listing : List ℕ → List ℕ

@@ -6,11 +6,13 @@ ghost use lib.ListN.{length};
 ghost use Rattle.text.specs.Placed.{shownText};
 ghost use Rattle.text.specs.Text.{refusedLine};
 ghost use Rattle.numbers.specs.Writing.{Room, Written};
+ghost use Rattle.reel.specs.Reel.{nextPlace};
 ghost use Rattle.reel.specs.Walk.{walk};
-ghost use Rattle.listing.specs.Listing.{columnsOf, recordText, walkText, listing, longestListing, textOver};
+ghost use Rattle.listing.specs.Listing.{columnsOf, recordText, turnText, textFrom, walkText, listing, longestListing, textOver};
 ghost use Rattle.listing.specs.Listing.{lineAnswer, lineAfter, listAnswer, listAfter};
 ghost use Rattle.listing.specs.Shown.{shownList};
 use header::EDITION_1985;
+use reel::Reader;
 use reel::Step;
 use text::Columns;
 use text::TextAnswer;
@@ -58,23 +60,42 @@ fn write_refusal(out: &mut [u8], at: usize, refusal: u8) -> usize
     text::next_of(put)
 }
 
+// The text of what stands at a place of a reel, where `end` is the place after it: a record's line, or a refusal's, or nothing.
+fn write_turn(out: &mut [u8], at: usize, reel: &[u8], place: usize, end: usize) -> usize
+    requires { ⌜ (end ≡ nextPlace 1985 (now reel) place) × Room (now out) at (turnText (now reel) place) ⌝ }
+    ensures { λ r. ⌜ Written (now (out .entry)) at (turnText (now (reel .entry)) place) r (now (out .exit)) ⌝ }
+{
+    if place < end {
+        return write_record(out, at, &reel[place..end]);
+    }
+    match reel::step_by_reader(EDITION_1985, reel, place) {
+        Step::Record { start: _, end: _ } => at,
+        Step::Finished => at,
+        Step::Refused(n) => write_refusal(out, at, n),
+    }
+}
+
+// The lines of the records from the reader's place on, and that of the refusal that ends them.
+fn write_from(reader: Reader, out: &mut [u8], at: usize) -> usize
+    requires { ⌜ (reader .edition ≡ 1985) × Room (now out) at (textFrom (now (reader .reel)) (reader .place)) ⌝ }
+    ensures { λ r. ⌜ Written (now (out .entry)) at (textFrom (now (reader .entry .reel)) (reader .entry .place)) r (now (out .exit)) ⌝ }
+{
+    let moved = reader.next();
+    let place = reader.place;
+    let end = moved.place;
+    let next = write_turn(out, at, reader.reel, place, end);
+    if place < end {
+        return write_from(moved, out, next);
+    }
+    next
+}
+
 // The lines of the records from place 0 on, and that of the refusal that ends them.
-fn write_walk(out: &mut [u8], at: usize, reel: &[u8]) -> usize
+fn write_walk(reel: &[u8], out: &mut [u8], at: usize) -> usize
     requires { ⌜ Room (now out) at (walkText (walk 1985 (now reel))) ⌝ }
     ensures { λ r. ⌜ Written (now (out .entry)) at (walkText (walk 1985 (now (reel .entry)))) r (now (out .exit)) ⌝ }
 {
-    let mut next = at;
-    let mut place: usize = 0;
-    loop {
-        match reel::step_by_reader(EDITION_1985, reel, place) {
-            Step::Record { start, end } => {
-                next = write_record(out, next, &reel[start..end]);
-                place = end;
-            }
-            Step::Finished => return next,
-            Step::Refused(n) => return write_refusal(out, next, n),
-        }
-    }
+    write_from(Reader::new(EDITION_1985, reel), out, at)
 }
 
 // ## Public functions
@@ -91,7 +112,7 @@ pub fn list_whole(input: &[u8], out: &mut [u8; LONGEST_LISTING]) -> usize
     if input.len() > LONGEST_INPUT {
         return write_refusal(out, at, 24);
     }
-    write_walk(out, at, input)
+    write_walk(input, out, at)
 }
 
 fn list_answer(answer: TextAnswer) -> ListAnswer

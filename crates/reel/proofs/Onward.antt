@@ -75,3 +75,18 @@ module _ (n : ℕ) (reel : List ℕ) where
           → isRecord (onward n reel go place b .last) ≡ false
       by-test go true e f = f (moved n reel place e .header)
       by-test go false e f = e
+
+  -- where as many records are allowed as bytes are left, one more changes nothing
+  pub settled : (most place : ℕ) → length reel ≤ place + most → walkFrom n reel (suc most) place ≡ walkFrom n reel most place
+  unfolding walkFrom
+  settled zero place h = ap (onward n reel (walkFrom n reel zero) place) (none-left place (omega arith))
+  settled (suc most) place h =
+      by-test (isRecord (stepAt n reel place)) refl
+      (λ m. settled most (nextPlace n reel place) (omega (arith, h, m, header-size n .0)))
+    where
+      by-test : (b : Bool) → isRecord (stepAt n reel place) ≡ b
+          → (place + headerBytes n ≤ nextPlace n reel place
+          → walkFrom n reel (suc most) (nextPlace n reel place) ≡ walkFrom n reel most (nextPlace n reel place))
+          → onward n reel (walkFrom n reel (suc most)) place b ≡ onward n reel (walkFrom n reel most) place b
+      by-test true e f = ap (handing (recordAt n reel place)) (f (moved n reel place e .header))
+      by-test false e f = refl

@@ -109,6 +109,9 @@ module _ (n : ℕ) (reel : List ℕ) (place : ℕ) where
   pub stands-at : (start end : ℕ) → stepAt n reel place ≡ accepted start end → Stands n reel place start end
   stands-at start end e = subst (Told n reel place) e told
 
+nothing-between : (place : ℕ) → 0 ≡ place - place
+nothing-between place = omega arith
+
 -- by what stands there
 module _ (n : ℕ) (reel : List ℕ) (place : ℕ) where
   found-split : (f : Found) → Told n reel place f → bytesFound f reel ++ drop (placeAfter f place) reel ≡ drop place reel
@@ -151,3 +154,38 @@ module _ (n : ℕ) (reel : List ℕ) (place : ℕ) where
 
   pub empty : isRecord (stepAt n reel place) ≡ false → recordAt n reel place ≡ []
   empty e = found-none (stepAt n reel place) e .1
+
+  -- the record is what lies between the place and the next
+  found-part : (f : Found) → Told n reel place f → bytesFound f reel ≡ take (placeAfter f place - place) (drop place reel)
+  found-part (accepted start end) t = ap (λ (k : ℕ). take (end - k) (drop k reel)) (t .here)
+  found-part finished t = ap (λ (k : ℕ). take k (drop place reel)) (nothing-between place)
+  found-part (refused k) t = ap (λ (m : ℕ). take m (drop place reel)) (nothing-between place)
+
+  pub part : recordAt n reel place ≡ take (nextPlace n reel place - place) (drop place reel)
+  part = found-part (stepAt n reel place) (told n reel place)
+
+  -- a step never goes back, so a place that is not past the first is the same
+  found-not-back : (f : Found) → Told n reel place f → place ≤ placeAfter f place
+  found-not-back (accepted start end) t = omega (arith, t .here, t .header)
+  found-not-back finished t = omega arith
+  found-not-back (refused k) t = omega arith
+
+  pub not-back : place ≤ nextPlace n reel place
+  not-back = found-not-back (stepAt n reel place) (told n reel place)
+
+  -- the place moves where a record stands, and nowhere else
+  pub unmoved : nextPlace n reel place ≡ place → isRecord (stepAt n reel place) ≡ false
+  unmoved e = by-test (isRecord (stepAt n reel place)) refl
+    where
+      by-test : (b : Bool) → isRecord (stepAt n reel place) ≡ b → b ≡ false
+      by-test true r =
+          let m = moved r in
+          absurd (let z : ⊥ = omega (arith, e, m .header, header-size n .0) in z)
+      by-test false r = refl
+
+  pub has-moved : (nextPlace n reel place ≡ place → ⊥) → isRecord (stepAt n reel place) ≡ true
+  has-moved e = by-test (isRecord (stepAt n reel place)) refl
+    where
+      by-test : (b : Bool) → isRecord (stepAt n reel place) ≡ b → b ≡ true
+      by-test true r = refl
+      by-test false r = absurd (e (stays r))

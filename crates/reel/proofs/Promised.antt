@@ -1,5 +1,5 @@
--- What a reader's methods answer, and what they promise: a step, or the bytes of a record; and that the machine value of each
--- is of its type. Assumes nothing.
+-- What a reader's methods answer, and what they promise: a step, the bytes of a record, or the reader moved on; and that the
+-- machine value of the first two is of its type. Assumes nothing.
 use mathlib.Core.Path.{_≡_}
 use mathlib.Core.List.{[], _∷_}
 use lib.Dec.{T as Holds}
@@ -16,10 +16,11 @@ use denote.Ref.{now}
 use denote.Signature.{Slot, plain, shrSliceOf}
 use denote.Slice.{shr-slice-lawful}
 use denote.Enum.Laws as EL
-use Rattle.reel.specs.Reader.{stepOf, recordOf}
+use Rattle.reel.specs.Reader.{stepOf, recordOf, movedOn}
 use Rattle.reel.specs.Shown.{shownStep}
 use Rattle.reel.proofs.Step as S
 use Rattle.reel.proofs.Step.Laws as S′
+use Rattle.reel.proofs.Held.{B}
 use Rattle.reel.proofs.Contracts.{Promise, reel-type}
 
 abbrev pub step : Slot 1
@@ -33,6 +34,12 @@ bytes = shrSliceOf (0 ∷ []) tt (plain (λ _. u8))
 
 abbrev pub is-record : Promise bytes
 is-record κs d r = now r ≡ recordOf d
+
+abbrev pub reader : Slot 1
+reader = plain B
+
+abbrev pub is-moved : Promise reader
+is-moved κs d r = r ≡ movedOn d
 
 module _ {M : Type 1} (𝓤 : URA M) (H : Heap 𝓤) (A : Atoms 𝓤) (W : Given 𝓤 H A) (κs : Lfts 1) where
   pub step-typed : (r : step .row κs .Denot) (u : Val) → Is (step .row κs) r (u ∷ []) → Holds (hasTy S′.mir u) × WT u

@@ -32,12 +32,13 @@ use denote.Triple.Spec.{tripleOf}
 use denote.Triple.Table.{entered, cited}
 use denote.Triple.Clauses.{ensured}
 use Rattle.reel.specs.Reel.{nextPlace}
-use Rattle.reel.specs.Reader.{stepOf, movedOn}
+use Rattle.reel.specs.Reader.{stepOf}
 use Rattle.reel.specs.declared.Reader.{Reader}
 use Rattle.reel.proofs.Held as held
-use Rattle.reel.proofs.Held.{B, D, L, mach, vd, Own}
+use Rattle.reel.proofs.Held.{D, L, mach, vd, Own}
 use Rattle.reel.proofs.Contracts as contracts
 use Rattle.reel.proofs.Contracts.{Promise, function, function-says, Function}
+use Rattle.reel.proofs.Promised.{reader, is-moved}
 use Rattle.reel.proofs.Reading.{at-place, moved-by}
 use Rattle.reel.proofs.Reader.Laws as T′
 use Rattle.reel.proofs.next_place as callee
@@ -49,18 +50,12 @@ use Rattle.reel.proofs.Reader.next as self
 use Rattle.reel.proofs.Reader.next.Statement as stated
 use Rattle.reel.proofs.Reader.next.Code as code
 
--- what `next_place` answers and promises, and what the method does
+-- what `next_place` answers and promises
 abbrev number : Slot 1
 number = plain (λ _. usize)
 
 abbrev is-place : Promise number
 is-place κs d r = r ≡ nextPlace (d .edition) (now (d .reel)) (d .place)
-
-abbrev reader : Slot 1
-reader = plain B
-
-abbrev is-moved : Promise reader
-is-moved κs d r = r ≡ movedOn d
 
 module _ {M : Type 1} (𝓤 : URA M) (H : Heap 𝓤) (A : Atoms 𝓤) (W : Given 𝓤 H A) (C : Calls 𝓤 H) (Λ : Loops 𝓤 H)
     (fm : FmC 𝓤 H (W .laws) C) (known : Triple 𝓤 (C #callee) (Function number is-place 𝓤 H A)) (κ : Lft) (q : Share)
