@@ -2,7 +2,7 @@ pub mod Line
 pub mod Shortest
 pub mod Longest
 pub mod Turns
-pub mod Again
+pub mod Lent
 pub mod Answers
 pub mod Cases
 pub mod Enough

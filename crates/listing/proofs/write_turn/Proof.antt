@@ -1,16 +1,15 @@
 -- By whether the next place is past the place: if so, a record stands between the two; else none stands, and the step tells
 -- whether its refusal has a line. Assumes nothing.
 use Prim.Native.Nat.{ℕ, _-_, _≤_, _<_}
-use mathlib.Core.Path.{_≡_, refl, ap, sym, _∙_}
-use mathlib.Core.Bool.{true, false, true≢false}
+use mathlib.Core.Path.{_≡_, ap, sym, _∙_}
+use mathlib.Core.Bool.{true}
 use mathlib.Core.List.{List}
 use native.Mathlib.Omega.{arith}
-use lib.ListN.{length, take, drop}
+use lib.ListN.{take, drop}
 use denote.Ref.{now}
 use borrow.Author.Needs.{needs}
 use Rattle.reel.specs.declared.Step.{Step}
-use Rattle.reel.specs.declared.Step.the-variants as Step
-use Rattle.reel.specs.Reel.{Found, stepAt, recordAt, nextPlace}
+use Rattle.reel.specs.Reel.{stepAt, nextPlace}
 use Rattle.reel.specs.Walk.{isRecord}
 use Rattle.reel.specs.Shown.{shownStep}
 use Rattle.reel.proofs.Place.{moved, part, not-back, unmoved, has-moved}
