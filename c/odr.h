@@ -75,24 +75,27 @@ enum {
 uint8_t odr_refusal(uint64_t edition, const uint8_t *record, size_t record_len);
 
 /* The fields of a header: the place of each among its values. docs/FORMAT.md, "The record", has each field's bits and unit.
- * Places 0 to 39, 41 and 42 have the same field in both editions; a list of values is one of the edition that its call names. */
+ * Places 0 to 39, 41 and 42 have the same field in both editions; a list of values is one of the edition that its call names.
+ *
+ * In capitals: the name in the figure of the header, RSC-11-10-1 of 1985 or figure 2 of 1992; where they differ, that of 1985 and,
+ * behind the semicolon, that of 1992. */
 enum odr_field {
-    ODR_CLOCK_ORIGIN = 0,            /* 1: the time is the station clock's */
-    ODR_SESSION_START = 1,
-    ODR_COPY_ERROR = 2,
-    ODR_CONVERSION = 3,              /* samples of 8 bits: 0 in 1985, 1 in 1992 */
-    ODR_COMPRESSION = 4,             /* 1: none */
-    ODR_TAPE_NUMBER = 5,
-    ODR_RECORD_NUMBER = 6,
-    ODR_LENGTH_WORDS = 7,            /* of the whole record, in words of two bytes */
-    ODR_PRIME_FEA = 8,
-    ODR_SECONDARY_FEA = 9,
-    ODR_SPACECRAFT = 10,
-    ODR_SPC = 11,
-    ODR_YEAR = 12,                   /* of the century */
-    ODR_DAY = 13,                    /* of the year, from 1 */
-    ODR_TIME_TAG_MS = 14,            /* milliseconds of the day, of the third sample of each channel, sample 2 */
-    ODR_PREDICT_0 = 15,              /* the predict set's ten bytes */
+    ODR_CLOCK_ORIGIN = 0,            /* O. 1: the time is the station clock's */
+    ODR_SESSION_START = 1,           /* S */
+    ODR_COPY_ERROR = 2,              /* E */
+    ODR_CONVERSION = 3,              /* C. Samples of 8 bits: 0 in 1985, 1 in 1992 */
+    ODR_COMPRESSION = 4,             /* COMPRES FACTOR; COMPRESSION FACTOR. 1: none */
+    ODR_TAPE_NUMBER = 5,             /* TAPE NUMBER */
+    ODR_RECORD_NUMBER = 6,           /* RECORD NUMBER */
+    ODR_LENGTH_WORDS = 7,            /* LENGTH OF RECORD, of the whole record in words of two bytes */
+    ODR_PRIME_FEA = 8,               /* PRIME FEA#; PRIME FEA: number of the prime front end area */
+    ODR_SECONDARY_FEA = 9,           /* SECONDARY FEA#; SECONDARY FEA: number of the secondary one */
+    ODR_SPACECRAFT = 10,             /* SPACECRAFT NUMBER */
+    ODR_SPC = 11,                    /* SPC CODE: designator of the signal processing center */
+    ODR_YEAR = 12,                   /* YEAR, of the century */
+    ODR_DAY = 13,                    /* DAY OF YEAR, from 1 */
+    ODR_TIME_TAG_MS = 14,            /* MILLISECONDS PAST 0h UTC; .. PAST 0 UTC: of the third sample of each channel, sample 2 */
+    ODR_PREDICT_0 = 15,              /* PREDICT SET IDENTIFICATION, ten bytes */
     ODR_PREDICT_1 = 16,
     ODR_PREDICT_2 = 17,
     ODR_PREDICT_3 = 18,
@@ -102,37 +105,39 @@ enum odr_field {
     ODR_PREDICT_7 = 22,
     ODR_PREDICT_8 = 23,
     ODR_PREDICT_9 = 24,
-    ODR_STATUS = 25,
-    ODR_READBACK_UHZ = 26,           /* microhertz */
-    ODR_READBACK_TAG_MS = 27,
-    ODR_CALCULATED_UHZ = 28,         /* microhertz */
-    ODR_UPDATE_TAG_MS = 29,
-    ODR_FREQUENCY_RATE_DIGITS = 30,  /* odr_frequency_rate gives the rate of these three */
-    ODR_FREQUENCY_RATE_POWER = 31,
-    ODR_FREQUENCY_RATE_SIGN = 32,    /* 1 is plus */
-    ODR_PHASE_1 = 33,                /* counts of 1/256 cycle in 1985, of 1/1,048,576 in 1992 */
-    ODR_PHASE_2 = 34,
-    ODR_SELECTOR_1 = 35,
-    ODR_SELECTOR_2 = 36,
-    ODR_SELECTOR_3 = 37,
-    ODR_SELECTOR_4 = 38,
-    ODR_COUNTER_TAG_MS = 39,
-    ODR_SAMPLE_RATE_HZ = 41,         /* samples a second in each channel */
-    ODR_SYNC_WORD = 42,
+    ODR_STATUS = 25,                 /* POCA STATUS */
+    ODR_READBACK_UHZ = 26,           /* POCA FREQUENCY (READBACK), microhertz */
+    ODR_READBACK_TAG_MS = 27,        /* TIME TAG OF POCA FREQUENCY (READBACK) */
+    ODR_CALCULATED_UHZ = 28,         /* POCA FREQUENCY (CALCULATED), microhertz */
+    ODR_UPDATE_TAG_MS = 29,          /* TIME TAG OF POCA (UPDATE CYCLE); TIME TAG OF POCA FREQUENCY (UPDATE CYCLE) */
+    ODR_FREQUENCY_RATE_DIGITS = 30,  /* POCA FREQUENCY RATE; odr_frequency_rate gives the rate of these three */
+    ODR_FREQUENCY_RATE_POWER = 31,   /* MULTIPLIER */
+    ODR_FREQUENCY_RATE_SIGN = 32,    /* S. 1 is plus */
+    ODR_PHASE_1 = 33,                /* FREQUENCY COUNTER NUMBER 1 CUMULATIVE PHASE; .. NO. 1 ..: counts of 1/256 cycle in 1985,
+                                      * of 1/1,048,576 in 1992 */
+    ODR_PHASE_2 = 34,                /* FREQUENCY COUNTER NUMBER 2 CUMULATIVE PHASE; .. NO. 2 .. */
+    ODR_SELECTOR_1 = 35,             /* TEST SIGNAL */
+    ODR_SELECTOR_2 = 36,             /* SAMPLE CONTROL */
+    ODR_SELECTOR_3 = 37,             /* COUNTER # 1 MODE; CNTR #1 MODE */
+    ODR_SELECTOR_4 = 38,             /* COUNTER #2 MODE; CNTR #2 MODE */
+    ODR_COUNTER_TAG_MS = 39,         /* TIME TAG OF FMS COUNTER; TIME TAG OF FMS MEASUREMENT */
+    ODR_SAMPLE_RATE_HZ = 41,         /* A/D CONVERTER SAMPLE RATE; A-D ..: samples a second in each channel */
+    ODR_SYNC_WORD = 42,              /* A 5 5 A */
 
     /* 1985 alone. Places 46 and 47 have no field: they are read as 0, and writing any other value there is 22. */
-    ODR_FILTER = 40,
-    ODR_WORD_39 = 43,
-    ODR_REGISTER_1 = 44,
-    ODR_REGISTER_2 = 45,
+    ODR_FILTER = 40,                 /* FILTER */
+    ODR_WORD_39 = 43,                /* '24' COUNTER, 'N' REGISTER */
+    ODR_REGISTER_1 = 44,             /* CONVERSION MODE REGISTER */
+    ODR_REGISTER_2 = 45,             /* SIGNAL SELECT REGISTER */
 
     /* 1992 alone. */
-    ODR_RF_CONFIGURATION = 40,           /* as the operator selected it: 1 prime, 2 cross, 3 Faraday rotation */
-    ODR_RF_CONFIGURATION_REPORTED = 43,  /* the same codes, as the switch reported it */
-    ODR_TIME_OFFSET_DAYS = 44,           /* of the predict set's times, with the seconds */
-    ODR_TIME_OFFSET_SIGN = 45,           /* 1 is minus, for the days and the seconds */
-    ODR_TIME_OFFSET_SECONDS = 46,
-    ODR_FREQUENCY_OFFSET = 47,           /* units of 1/1,048,576 Hz, signed: (int64_t)value[ODR_FREQUENCY_OFFSET] */
+    ODR_RF_CONFIGURATION = 40,           /* RFCNF, as the operator selected it: 1 prime, 2 cross, 3 Faraday rotation */
+    ODR_RF_CONFIGURATION_REPORTED = 43,  /* RFIF: the same codes, as the IF switch reported it */
+    ODR_TIME_OFFSET_DAYS = 44,           /* PREDICT TIME OFFSET (DAYS), of the predict set's times, with the seconds */
+    ODR_TIME_OFFSET_SIGN = 45,           /* SGN. 1 is minus, for the days and the seconds */
+    ODR_TIME_OFFSET_SECONDS = 46,        /* TIME OFFSET (SECONDS) */
+    ODR_FREQUENCY_OFFSET = 47,           /* PREDICT FREQUENCY OFFSET, units of 1/1,048,576 Hz, signed:
+                                          * (int64_t)value[ODR_FREQUENCY_OFFSET] */
 
     ODR_HEADER_VALUES = 48  /* how many there are, in either edition */
 };

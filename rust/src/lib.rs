@@ -105,30 +105,41 @@ pub mod refusal {
 
 /// The fields of a header: the place of each among its values. docs/FORMAT.md, "The record", has each field's bits and unit.
 /// Places 0 to 39, 41 and 42 have the same field in both editions; a list of values is one of the edition that its call names.
+///
+/// In capitals: the name in the figure of the header, RSC-11-10-1 of 1985 or figure 2 of 1992; where they differ, that of 1985
+/// and, behind the semicolon, that of 1992.
 pub mod field {
-    /// 1: the time is the station clock's.
+    /// O. 1: the time is the station clock's.
     pub const CLOCK_ORIGIN: usize = 0;
+    /// S.
     pub const SESSION_START: usize = 1;
+    /// E.
     pub const COPY_ERROR: usize = 2;
-    /// Samples of 8 bits: 0 in 1985, 1 in 1992.
+    /// C. Samples of 8 bits: 0 in 1985, 1 in 1992.
     pub const CONVERSION: usize = 3;
-    /// 1: none.
+    /// COMPRES FACTOR; COMPRESSION FACTOR. 1: none.
     pub const COMPRESSION: usize = 4;
+    /// TAPE NUMBER.
     pub const TAPE_NUMBER: usize = 5;
+    /// RECORD NUMBER.
     pub const RECORD_NUMBER: usize = 6;
-    /// Of the whole record, in words of two bytes.
+    /// LENGTH OF RECORD, of the whole record in words of two bytes.
     pub const LENGTH_WORDS: usize = 7;
+    /// PRIME FEA#; PRIME FEA: number of the prime front end area.
     pub const PRIME_FEA: usize = 8;
+    /// SECONDARY FEA#; SECONDARY FEA: number of the secondary one.
     pub const SECONDARY_FEA: usize = 9;
+    /// SPACECRAFT NUMBER.
     pub const SPACECRAFT: usize = 10;
+    /// SPC CODE: designator of the signal processing center.
     pub const SPC: usize = 11;
-    /// Of the century.
+    /// YEAR, of the century.
     pub const YEAR: usize = 12;
-    /// Of the year, from 1.
+    /// DAY OF YEAR, from 1.
     pub const DAY: usize = 13;
-    /// Milliseconds of the day, of the third sample of each channel, sample 2.
+    /// MILLISECONDS PAST 0h UTC; .. PAST 0 UTC: of the third sample of each channel, sample 2.
     pub const TIME_TAG_MS: usize = 14;
-    /// The predict set's first byte of ten.
+    /// PREDICT SET IDENTIFICATION, the first byte of ten.
     pub const PREDICT_0: usize = 15;
     pub const PREDICT_1: usize = 16;
     pub const PREDICT_2: usize = 17;
@@ -139,54 +150,65 @@ pub mod field {
     pub const PREDICT_7: usize = 22;
     pub const PREDICT_8: usize = 23;
     pub const PREDICT_9: usize = 24;
+    /// POCA STATUS.
     pub const STATUS: usize = 25;
-    /// Microhertz.
+    /// POCA FREQUENCY (READBACK), microhertz.
     pub const READBACK_UHZ: usize = 26;
+    /// TIME TAG OF POCA FREQUENCY (READBACK).
     pub const READBACK_TAG_MS: usize = 27;
-    /// Microhertz.
+    /// POCA FREQUENCY (CALCULATED), microhertz.
     pub const CALCULATED_UHZ: usize = 28;
+    /// TIME TAG OF POCA (UPDATE CYCLE); TIME TAG OF POCA FREQUENCY (UPDATE CYCLE).
     pub const UPDATE_TAG_MS: usize = 29;
-    /// [`super::frequency_rate`] gives the rate of these digits, the power and the sign.
+    /// POCA FREQUENCY RATE; [`super::frequency_rate`] gives the rate of these digits, the power and the sign.
     pub const FREQUENCY_RATE_DIGITS: usize = 30;
+    /// MULTIPLIER.
     pub const FREQUENCY_RATE_POWER: usize = 31;
-    /// 1 is plus.
+    /// S. 1 is plus.
     pub const FREQUENCY_RATE_SIGN: usize = 32;
-    /// Counts of 1/256 cycle in 1985, of 1/1,048,576 in 1992.
+    /// FREQUENCY COUNTER NUMBER 1 CUMULATIVE PHASE; .. NO. 1 ..: counts of 1/256 cycle in 1985, of 1/1,048,576 in 1992.
     pub const PHASE_1: usize = 33;
+    /// FREQUENCY COUNTER NUMBER 2 CUMULATIVE PHASE; .. NO. 2 ..
     pub const PHASE_2: usize = 34;
+    /// TEST SIGNAL.
     pub const SELECTOR_1: usize = 35;
+    /// SAMPLE CONTROL.
     pub const SELECTOR_2: usize = 36;
+    /// COUNTER # 1 MODE; CNTR #1 MODE.
     pub const SELECTOR_3: usize = 37;
+    /// COUNTER #2 MODE; CNTR #2 MODE.
     pub const SELECTOR_4: usize = 38;
+    /// TIME TAG OF FMS COUNTER; TIME TAG OF FMS MEASUREMENT.
     pub const COUNTER_TAG_MS: usize = 39;
-    /// Samples a second in each channel.
+    /// A/D CONVERTER SAMPLE RATE; A-D ..: samples a second in each channel.
     pub const SAMPLE_RATE_HZ: usize = 41;
+    /// A 5 5 A.
     pub const SYNC_WORD: usize = 42;
 
     // 1985 alone. Places 46 and 47 have no field: they are read as 0, and writing any other value there is 22.
 
-    /// 1985.
+    /// 1985: FILTER.
     pub const FILTER: usize = 40;
-    /// 1985.
+    /// 1985: '24' COUNTER, 'N' REGISTER.
     pub const WORD_39: usize = 43;
-    /// 1985.
+    /// 1985: CONVERSION MODE REGISTER.
     pub const REGISTER_1: usize = 44;
-    /// 1985.
+    /// 1985: SIGNAL SELECT REGISTER.
     pub const REGISTER_2: usize = 45;
 
     // 1992 alone.
 
-    /// 1992, as the operator selected it: 1 prime, 2 cross, 3 Faraday rotation.
+    /// 1992: RFCNF, as the operator selected it: 1 prime, 2 cross, 3 Faraday rotation.
     pub const RF_CONFIGURATION: usize = 40;
-    /// 1992, the same codes, as the switch reported it.
+    /// 1992: RFIF: the same codes, as the IF switch reported it.
     pub const RF_CONFIGURATION_REPORTED: usize = 43;
-    /// 1992, of the predict set's times, with the seconds.
+    /// 1992: PREDICT TIME OFFSET (DAYS), of the predict set's times, with the seconds.
     pub const TIME_OFFSET_DAYS: usize = 44;
-    /// 1992; 1 is minus, for the days and the seconds.
+    /// 1992: SGN. 1 is minus, for the days and the seconds.
     pub const TIME_OFFSET_SIGN: usize = 45;
-    /// 1992.
+    /// 1992: TIME OFFSET (SECONDS).
     pub const TIME_OFFSET_SECONDS: usize = 46;
-    /// 1992, in units of 1/1,048,576 Hz. The value is signed: `values[FREQUENCY_OFFSET] as i64`.
+    /// 1992: PREDICT FREQUENCY OFFSET, in units of 1/1,048,576 Hz. The value is signed: `values[FREQUENCY_OFFSET] as i64`.
     pub const FREQUENCY_OFFSET: usize = 47;
 }
 
