@@ -1,5 +1,5 @@
-//! The index of seconds: openings and histories, each call compared with the second program's ledger. FORMAT: "The index of
-//! seconds" and "The ledger".
+//! The index of seconds: openings and histories, each call compared with the second program's ledger, the consistency test with
+//! what the cells give too. FORMAT: "The index of seconds" and "The ledger".
 
 use crate::altered::Altered;
 use crate::cells::{self, block};
@@ -362,10 +362,10 @@ impl History {
         self.compare(run, ("odr_second_means", kind), self.held_date(), actual, said, &[]);
     }
 
-    /// What the ledger tells of the test: whether the records of the rows given are those of the seconds given, and where the first
-    /// second is another, that there are none, since a second's cells have their own second. It tells nothing where rows or
-    /// seconds beyond those opened are given, nor of altered cells.
-    fn consistent_by_ledger(&self) -> Option<bool> {
+    /// Whether the records that the ledger has in the rows given are those that it has in the seconds given. Where the first second
+    /// is another, there must be none: the cells of a second have their own second. The ledger tells nothing of rows and seconds
+    /// beyond those opened, nor of altered cells.
+    fn held_is_given(&self) -> Option<bool> {
         let Opening { first_second, count, highest, .. } = self.given;
         let moved = first_second != self.opened.first_second;
         let told = count <= self.opened.count && highest <= self.opened.highest && self.altered != DAMAGED;
@@ -384,7 +384,7 @@ impl History {
         let kind = told.map_or(String::new(), |yes| {
             format!("{}{}{}", self.limits_word(), self.altered, if yes { "yes " } else { "no " })
         });
-        let by_ledger = told.ok().and_then(|_| self.consistent_by_ledger());
+        let by_ledger = judged.ok().and_then(|yes| Some(yes && self.held_is_given()?));
         let apart = by_ledger.is_some_and(|yes| told != Ok(yes)).then(|| "not as the ledger tells".to_string());
         let actual = odr::is_consistent(passed(&self.given), self.rows.body(), self.seconds.body());
         self.compare(run, ("odr_is_consistent", &kind), self.held_date(), actual, Said::Is(expected), &[("cells", apart)]);
