@@ -1,6 +1,8 @@
-//! The index of seconds: openings and histories, each call compared with the second program's ledger. FORMAT: "The index of
-//! seconds" and "The ledger".
+//! The index of seconds: openings and histories, each call compared with the second program's ledger, the consistency test with
+//! what the cells give too. FORMAT: "The index of seconds" and "The ledger".
 
+use crate::altered::Altered;
+use crate::cells::{self, block};
 use crate::lent::{around, Lent};
 use crate::records::{any_record, date, met_clipped, met_time, outcome, total};
 use crate::run::{answer, day_word, Answer, Part, Run, Said};
@@ -10,11 +12,13 @@ use second::edition::{edition_of, Edition, Rate, EDITIONS};
 use second::gen::{self, set_word, word, Rng};
 use second::record::read_header;
 use second::samples::Means;
-use std::ops::Range;
+use std::cmp::Ordering::{Equal, Greater, Less};
 
-/// The cell of a row that holds its second (crates/index_model/specs/Cells.antt).
-const SECOND_CELL: usize = 3;
 const DAY: u64 = 86_400;
+
+/// Which cells were altered before a test: some of the rows and seconds given, or only cells beyond them.
+const DAMAGED: &str = "damaged ";
+const BEYOND: &str = "beyond ";
 
 fn numbers(o: &Opening) -> [u64; 10] {
     [o.first_second, o.count, o.highest, o.edition, o.rate, o.tape, o.year, o.day, o.spacecraft, o.spc]
@@ -40,11 +44,6 @@ fn passed(o: &Opening) -> odr::Opening {
     }
 }
 
-/// The cells of row or second `i`.
-fn block(i: u64) -> Range<usize> {
-    CELLS * i as usize..CELLS * (i as usize + 1)
-}
-
 /// Opens an index with buffers of these lengths: row cells and second cells.
 fn open(run: &mut Run, edition: u64, pattern: Vec<u8>, limits: [u64; 3], lengths: [usize; 2]) -> Option<History> {
     let [first, count, highest] = limits;
@@ -58,7 +57,7 @@ fn open(run: &mut Run, edition: u64, pattern: Vec<u8>, limits: [u64; 3], lengths
     let parts = [("pattern", record.difference()), ("rows", rows.check(&no_rows)), ("seconds", seconds.check(&no_seconds))];
     run.compare("odr_open", &outcome(edition, &pattern, expected.refusal), actual, expected, &parts);
     let (edition, opened) = (edition_of(edition).ok()?, opened.ok()?);
-    Some(History { edition, pattern, given: opened.clone(), opened, ledger: Ledger::default(), rows, seconds })
+    Some(History { edition, pattern, given: opened.clone(), opened, ledger: Ledger::default(), rows, seconds, altered: "" })
 }
 
 /// An opening of any kind, most of them refused.
@@ -138,19 +137,17 @@ struct History {
     ledger: Ledger,
     rows: Lent<u32>,
     seconds: Lent<u32>,
+    /// Which cells were altered since the last call, in the words of an outcome: none but in a test on altered cells.
+    altered: &'static str,
 }
 
 impl History {
-    /// One call, or one on forged openings, short buffers or damaged cells, which leave this history as it is.
+    /// One call, or one on forged openings, short buffers or altered cells, which leave this history as it is.
     fn step(&mut self, run: &mut Run) {
         match run.rng.next() % 32 {
             0..=5 => self.forged(&mut run.rng).call(run),
-            6..=7 => {
-                let mut damaged = self.clone();
-                let consistent = damaged.damage(&mut run.rng);
-                damaged.test_consistency(run, consistent);
-            }
-            8 if run.rng.one_in(4) => self.query_all(run),
+            6..=8 => self.altered(&mut run.rng).test_consistency(run),
+            9 if run.rng.one_in(4) => self.query_all(run),
             _ => self.call(run),
         }
     }
@@ -171,7 +168,7 @@ impl History {
                 let second = run.rng.pick(&[near, near, near, near, near, DAY, near + (1 << 32), any]);
                 if run.rng.one_in(3) { self.means(run, second) } else { self.query(run, second) }
             }
-            _ => self.test_consistency(run, true),
+            _ => self.test_consistency(run),
         }
     }
 
@@ -238,7 +235,7 @@ impl History {
             self.query(run, second);
             self.means(run, second);
         }
-        self.test_consistency(run, true);
+        self.test_consistency(run);
     }
 
     /// The second of the record held under a number.
@@ -365,31 +362,32 @@ impl History {
         self.compare(run, ("odr_second_means", kind), self.held_date(), actual, said, &[]);
     }
 
-    /// Whether the rows of the opening given are those of the records in its seconds; none where its rows and seconds are not all
-    /// among those opened.
-    fn is_consistent(&self) -> Option<bool> {
+    /// Whether the records that the ledger has in the rows given are those that it has in the seconds given. Where the first second
+    /// is another, there must be none: the cells of a second have their own second. The ledger tells nothing of rows and seconds
+    /// beyond those opened, nor of altered cells.
+    fn held_is_given(&self) -> Option<bool> {
         let Opening { first_second, count, highest, .. } = self.given;
-        let among = first_second == self.opened.first_second && count <= self.opened.count && highest <= self.opened.highest;
-        let inside = |number| self.second_of(number).is_some_and(|second| second < first_second + count);
+        let moved = first_second != self.opened.first_second;
+        let told = count <= self.opened.count && highest <= self.opened.highest && self.altered != DAMAGED;
+        let among = |number| self.second_of(number).is_some_and(|second| second < self.opened.first_second + count);
         let mut held = self.ledger.records.keys().map(|&number| u64::from(number));
-        among.then(|| held.all(|number| (number <= highest) == inside(number)))
+        told.then(|| held.all(|number| (number <= highest) == among(number) && !(moved && among(number))))
     }
 
-    /// The consistency test: FORMAT states it of any cells, so of a forged opening too.
-    fn test_consistency(&mut self, run: &mut Run, undamaged: bool) {
+    /// The consistency test, whose answer FORMAT states on any cells, so for a forged opening and on altered cells too: that of the
+    /// cells themselves, which must be the ledger's where that tells one.
+    fn test_consistency(&mut self, run: &mut Run) {
         let [rows, seconds] = self.lengths();
-        let refusal = self.ledger.book_test(&self.given, rows, seconds);
-        let said = match (refusal, self.is_consistent()) {
-            (Err(number), _) => Said::Is(ConsistencyAnswer::refused(number)),
-            (_, Some(consistent)) => Said::Is(ConsistencyAnswer { refusal: 0, consistent: consistent && undamaged }),
-            (_, None) => Said::Open(0),
-        };
-        let kind = match said {
-            Said::Is(ConsistencyAnswer { refusal: 0, consistent }) => if consistent { "yes " } else { "no " },
-            _ => "",
-        };
+        let judged = self.ledger.book_test(&self.given, rows, seconds);
+        let told = judged.map(|_| cells::is_consistent(&self.given, self.rows.body(), self.seconds.body()));
+        let expected = answer(&told, |&consistent| ConsistencyAnswer { refusal: 0, consistent });
+        let kind = told.map_or(String::new(), |yes| {
+            format!("{}{}{}", self.limits_word(), self.altered, if yes { "yes " } else { "no " })
+        });
+        let by_ledger = judged.ok().and_then(|yes| Some(yes && self.held_is_given()?));
+        let apart = by_ledger.is_some_and(|yes| told != Ok(yes)).then(|| "not as the ledger tells".to_string());
         let actual = odr::is_consistent(passed(&self.given), self.rows.body(), self.seconds.body());
-        self.compare(run, ("odr_is_consistent", kind), self.held_date(), actual, said, &[]);
+        self.compare(run, ("odr_is_consistent", &kind), self.held_date(), actual, Said::Is(expected), &[("cells", apart)]);
     }
 
     /// The date that the opening given holds.
@@ -402,6 +400,21 @@ impl History {
         let needed = [self.opened.highest, self.opened.count].map(|blocks| block(blocks).start);
         let short = self.lengths().iter().zip(needed).any(|(&length, needed)| length < needed);
         if self.given != self.opened { "forged " } else if short { "short " } else { "" }
+    }
+
+    /// Which of F, C and R is forged.
+    fn limits_word(&self) -> &'static str {
+        let limits = |o: &Opening| [o.first_second, o.count, o.highest];
+        let [given, opened] = [&self.given, &self.opened].map(limits);
+        match [0, 1, 2].map(|i| given[i].cmp(&opened[i])) {
+            [Equal, Equal, Equal] => "",
+            [_, Equal, Equal] => "F ",
+            [Equal, Less, Equal] => "smaller C ",
+            [Equal, Greater, Equal] => "larger C ",
+            [Equal, Equal, Less] => "smaller R ",
+            [Equal, Equal, Greater] => "larger R ",
+            _ => "limits ",
+        }
     }
 
     /// What is forged, where that is what 13 or 15 turns on: the date, the edition, or a rate that only the other edition has.
@@ -482,34 +495,23 @@ impl History {
         forged
     }
 
-    /// Changes cells that no call would, and gives what the test then says.
-    fn damage(&mut self, rng: &mut Rng) -> bool {
-        let held = self.number(rng);
-        let (start, more) = (self.opened.first_second, 1 + (rng.next() % 1000) as u32);
-        let alone = |second: u64| self.totals(second).is_ok_and(|t| t.records == 1);
-        match (rng.next() % 4, self.second_of(held)) {
-            // A row out of the window, where the second cells are those that the other rows give.
-            (0, Some(second)) if alone(second) => {
-                let outside = rng.pick(&[start.wrapping_sub(1), start + self.opened.count, u64::MAX]) as u32;
-                self.rows.set(block(held - 1).start + SECOND_CELL, &[outside]);
-                self.seconds.set(block(second - start).start, &[0; CELLS]);
-            }
-            // A cell of a held row: above every greatest, and another sum.
-            (1, Some(_)) => {
-                let at = block(held - 1).start + rng.next() as usize % CELLS;
-                self.rows.set(at, &[self.rows.body()[at].wrapping_add(1000)]);
-            }
-            // Cells that belong to no number and no second.
-            (2, _) => {
-                self.rows.set(block(self.opened.highest).start, &[more]);
-                self.seconds.set(block(self.opened.count).start, &[more]);
-                return true;
-            }
-            _ => {
-                let at = rng.next() as usize % (CELLS * self.opened.count as usize);
-                self.seconds.set(at, &[self.seconds.body()[at].wrapping_add(more)]);
-            }
+    /// This history for a test: most often with another F, C or R, few times with another tape number, and most often with cells
+    /// altered.
+    fn altered(&self, rng: &mut Rng) -> History {
+        let [rows, seconds] = [&self.rows, &self.seconds].map(|cells| cells.body().to_vec());
+        let mut test = Altered { given: self.opened.clone(), rows, seconds };
+        match rng.next() % 16 {
+            0..=1 => {}
+            2 => test.given.tape = test.given.tape % 255 + 1,
+            _ => test.limits(rng),
         }
-        false
+        let altered = rng.pick(&["", "", BEYOND, DAMAGED, DAMAGED, DAMAGED]);
+        match altered {
+            BEYOND => test.beyond(rng),
+            DAMAGED => test.within(rng),
+            _ => {}
+        }
+        let Altered { given, rows, seconds } = test;
+        History { given, rows: Lent::of(&rows), seconds: Lent::of(&seconds), altered, ..self.clone() }
     }
 }

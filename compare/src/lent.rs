@@ -63,12 +63,6 @@ impl<T: Element> Lent<T> {
         self.expected[range.clone()].copy_from_slice(&self.memory[range]);
     }
 
-    /// Puts elements into the body from `place` on, as many as it holds.
-    pub fn set(&mut self, place: usize, elements: &[T]) {
-        self.body_mut().iter_mut().skip(place).zip(elements).for_each(|(now, &element)| *now = element);
-        self.expect(place, elements);
-    }
-
     /// Elements of the body are expected to be these from `place` on, as many as it holds.
     pub fn expect(&mut self, place: usize, elements: &[T]) {
         let body = &mut self.expected[GUARD..GUARD + self.length];

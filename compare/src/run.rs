@@ -15,11 +15,13 @@ use std::fmt::Debug;
 /// - `mixed`: an insert that names the other edition than the index has;
 /// - `forged`: an opening that odr_open did not return, and behind it `edition`, only the edition is forged (for 13 to an unknown
 ///   one), or `rate`, the rate that is held is only of the other edition;
+/// - `F`, `larger R` and so on, `limits`: of a consistency test, which of F, C and R is forged, or that several are;
+/// - `beyond`, `damaged`: only cells beyond the R and C given were altered, or cells of those rows and seconds;
 /// - `short`: a buffer of too few cells;
 /// - `left open`: an answer of which FORMAT says no more than what `Said::Open` has.
 ///
-/// A number with a star must be met on day 366 too. HZ stands for each rate of the edition, in the second list for those of 1985.
-/// What follows is counted besides the number 0:
+/// A number with a star must be met on day 366 too. `{a|b}` stands for each of a and b, HZ for each rate of the edition, in the
+/// second list for those of 1985. What follows is counted besides the number 0:
 /// - `sample`, `last sample`: the one asked for;
 /// - `tag`: the time tag and the rate of the record;
 /// - `below zero`: a time on the day before, of an insert that of sample 0;
@@ -75,7 +77,9 @@ const CALLS: [(&str, &str, &str); 20] = [
     ),
     (
         "odr_is_consistent",
-        "yes 0*,no 0*,short 14,forged yes 0,forged no 0,forged 13*,forged edition 13,forged rate 13,forged 14,forged left open",
+        "yes 0*,beyond yes 0*,damaged {yes|no} 0*,short 14,forged yes 0,forged beyond yes 0,forged damaged {yes|no} 0,\
+         forged {F|larger R|smaller R|larger C|smaller C|limits} {|beyond |damaged }{yes|no} 0,\
+         forged 13*,forged edition 13,forged rate 13,forged 14",
         "",
     ),
     (
@@ -110,19 +114,26 @@ fn all_outcomes(each: &str, besides: &str) -> Vec<String> {
     [EDITIONS.map(of).concat(), outcomes(&EDITION_1985, besides)].concat()
 }
 
+/// An item with each choice of its first `{a|b}`, and of those behind it.
+fn choices(item: &str) -> Vec<String> {
+    let Some((before, rest)) = item.split_once('{') else { return vec![item.to_string()] };
+    let (all, after) = rest.split_once('}').expect("an end of the choices");
+    all.split('|').flat_map(|choice| choices(&format!("{before}{choice}{after}"))).collect()
+}
+
 /// The outcomes of such a list: a range stands for each of its numbers, HZ for each rate of the edition.
 fn outcomes(edition: &Edition, list: &str) -> Vec<String> {
-    let each = |item: &str| {
+    let each = |item: String| {
         let (words, last) = item.split_at(item.rfind(' ').map_or(0, |at| at + 1));
         let ends = last.split_once('-').and_then(|(low, high)| Some((low.parse().ok()?, high.parse().ok()?)));
         match (ends, last.strip_suffix('*')) {
             (Some((low, high)), _) => (low..=high).map(|number: u8| format!("{words}{number}")).collect(),
             (_, Some(number)) => vec![format!("{words}{number}"), format!("{words}{DAY_366}{number}")],
             _ if item.contains("HZ") => edition.rates.iter().map(|rate| item.replace("HZ", &rate.hz.to_string())).collect(),
-            _ => vec![item.to_string()],
+            _ => vec![item],
         }
     };
-    list.split(',').filter(|item| !item.is_empty()).flat_map(each).collect()
+    list.split(',').filter(|item| !item.is_empty()).flat_map(choices).flat_map(each).collect()
 }
 
 /// An answer of the library. Beside a refusal's number every other member is 0.
@@ -204,7 +215,7 @@ impl<A: Answer> Said<A> {
     fn words(&self) -> String {
         match self {
             Said::Is(expected) => format!("{expected:?}"),
-            Said::Open(refusal) => format!("left open, with 0 or {refusal}"),
+            Said::Open(refusal) => format!("0 or {refusal}, with whatever answer"),
         }
     }
 }
@@ -262,7 +273,7 @@ impl Run {
             return;
         }
         println!("DIFFERENT: {call}, seed {}, case {}, outcome {outcome}", self.seed, self.cases);
-        println!("  the library answers {actual:?}\n  the second program {}", said.words());
+        println!("  the library answers {actual:?}\n  expected is {}", said.words());
         for (name, difference) in different {
             println!("  {name}: {}", difference.as_deref().unwrap_or(""));
         }
