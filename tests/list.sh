@@ -336,7 +336,7 @@ sys.stdout.buffer.write(reel)' "$2" >"$long/reel.odr"
         awk -F, -v OFS=, 'NR > 1 { $1 = NR - 1 } 1' >"$tmp/wanted"
 }
 poke() {
-    printf "$2" | dd of="$long/reel.odr" bs=1 seek="$1" conv=notrunc status=none
+    printf %b "$2" | dd of="$long/reel.odr" bs=1 seek="$1" conv=notrunc status=none
 }
 refused_at() { # LINES NUMBER: so many lines of the listing, and a refusal
     { head -n "$1" "$tmp/wanted"; echo "refused,$2"; } >"$tmp/refused"
