@@ -7,7 +7,7 @@ set -euo pipefail
 cd "$(dirname "$(readlink -f "$0")")/.."
 [ -x target/bin/lister ] || { echo "tests/list.sh: target/bin/lister is not built: rt check lister builds it" >&2; exit 1; }
 trap 'echo "tests/list.sh: stopped at line $LINENO" >&2' ERR
-unset CDPATH
+unset CDPATH "${!GIT_@}"
 tmp=$(readlink -f "$(mktemp -d)")
 trap 'rm -rf "$tmp"' EXIT
 passed=0
@@ -206,7 +206,7 @@ expect "a copy's --help" 0 "$tmp/help" ''
 check "nothing is built so far" [ ! -s "$CALLS" ]
 
 # A clone says its commit, also where git is told of another repository, and that a file differs from it.
-git=(git -C "$tree" -c user.name=test -c user.email=test@localhost)
+git=(git -C "$tree" -c user.name=test -c user.email=test@localhost -c commit.gpgsign=false)
 "${git[@]}" init --quiet
 "${git[@]}" add list
 "${git[@]}" commit --quiet --message test
