@@ -17,3 +17,5 @@ pub mod Steps
 pub mod Opened
 pub mod Demand3
 pub mod Unique
+pub mod Loops
+pub mod Consistent
