@@ -108,9 +108,9 @@ module _ (rows : List ℕ) (s j : ℕ) where
       ∙ greatest-more k (rowWithin rows i s) (greatestTo gives i) (cell rows i j)
       ∙ (λ t. max (greatestTo gives i) (row-gives i t))
 
-  passed : (n : ℕ) → cellFrom rows s j n ≡ rowsGive rows n s j
+  pass-gives : (n : ℕ) → cellFrom rows s j n ≡ rowsGive rows n s j
   unfolding isGreatest
-  passed n =
+  pass-gives n =
       ⊎-elim (λ k. greatest-passed (lt-ltb 2 (j % 5) (omega arith)) n ∙ sym (ap by-kind (le-ltb (j % 5) 3 k)))
       (λ k. sum-passed (le-ltb 2 (j % 5) (omega arith)) n ∙ sym (ap by-kind (lt-ltb (j % 5) 3 k))) (le-or-lt 3 (j % 5))
     where
@@ -142,40 +142,38 @@ module _ (o : Opening) (c : Buffers) where
   abbrev cellTest : ℕ → ℕ → Bool
   cellTest k j = eqb (cell (c .seconds) k j) (cellFrom (c .rows) (F o + k) j (R o))
 
-  cell-found : (s : ℕ) → F o ≤ s → (j : ℕ) → cellTest (s - F o) j ≡ true
-      → secondCell (c .seconds) (F o) s j ≡ rowsGive (c .rows) (R o) s j
-  cell-found s p j e =
-      eqb-true (secondCell (c .seconds) (F o) s j) (cellFrom (c .rows) (F o + (s - F o)) j (R o)) e
-      ∙ (λ t. cellFrom (c .rows) (let z : F o + (s - F o) ≡ s = omega arith in z t) j (R o))
-      ∙ passed (c .rows) s j (R o)
+  pub at-place : (s : ℕ) → F o ≤ s → (j : ℕ) → cellFrom (c .rows) (F o + (s - F o)) j (R o) ≡ rowsGive (c .rows) (R o) s j
+  at-place s p j =
+      (λ t. cellFrom (c .rows) (let z : F o + (s - F o) ≡ s = omega arith in z t) j (R o)) ∙ pass-gives (c .rows) s j (R o)
 
   cell-tested : (k j : ℕ) → secondCell (c .seconds) (F o) (F o + k) j ≡ rowsGive (c .rows) (R o) (F o + k) j
       → cellTest k j ≡ true
   cell-tested k j e =
       eq-eqb (cell (c .seconds) k j) (cellFrom (c .rows) (F o + k) j (R o))
       (ap (λ (a : ℕ). cell (c .seconds) a j) (let z : k ≡ F o + k - F o = omega arith in z)
-      ∙ e ∙ sym (passed (c .rows) (F o + k) j (R o)))
+      ∙ e ∙ sym (pass-gives (c .rows) (F o + k) j (R o)))
 
   -- ## the whole test
 
-  secondTest : ℕ → Bool
+  abbrev secondTest : ℕ → Bool
   secondTest k = cellsRight o c k width
 
   found : isConsistent o c ≡ true → Consistent o c
-  unfolding isConsistent rowsInside secondsRight cellsRight secondTest
+  unfolding isConsistent rowsInside secondsRight cellsRight
   found e =
       let both = both-true (rowsInside o (c .rows) (R o)) (secondsRight o c (C o)) e in
       record {
         rows-inside = λ n p q.
             row-found (n - 1) (each-of (rowsInside o (c .rows)) rowTest refl (λ i. refl) (R o) (both .0) (n - 1) (omega arith));
         seconds-right = λ s p q j h.
-            cell-found s p j
-            (each-of (cellsRight o c (s - F o)) (cellTest (s - F o)) refl (λ i. refl) width
-            (each-of (secondsRight o c) secondTest refl (λ i. refl) (C o) (both .1) (s - F o) (omega arith)) j h);
+            let second = each-of (secondsRight o c) secondTest refl (λ k. refl) (C o) (both .1) (s - F o) (omega arith) in
+            eqb-true (secondCell (c .seconds) (F o) s j) (cellFrom (c .rows) (F o + (s - F o)) j (R o))
+            (each-of (cellsRight o c (s - F o)) (cellTest (s - F o)) refl (λ j. refl) width second j h)
+            ∙ at-place s p j;
       }
 
-  tested : Consistent o c → isConsistent o c ≡ true
-  unfolding isConsistent rowsInside secondsRight cellsRight secondTest
+  pub tested : Consistent o c → isConsistent o c ≡ true
+  unfolding isConsistent rowsInside secondsRight cellsRight
   tested right =
       λ t. all-of (rowsInside o (c .rows)) rowTest refl (λ i. refl) (R o) row t
       && all-of (secondsRight o c) secondTest refl (λ i. refl) (C o) second t
