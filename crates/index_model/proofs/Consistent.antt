@@ -153,30 +153,44 @@ module _ (o : Opening) (c : Buffers) where
       (ap (λ (a : ℕ). cell (c .seconds) a j) (let z : k ≡ F o + k - F o = omega arith in z)
       ∙ e ∙ sym (pass-gives (c .rows) (F o + k) j (R o)))
 
+  -- ## the loops of the test
+
+  rows-more : (i : ℕ) → rowsInside o (c .rows) (suc i) ≡ rowsInside o (c .rows) i && rowTest i
+  unfolding rowsInside
+  rows-more i = refl
+
+  cells-more : (k j : ℕ) → cellsRight o c k (suc j) ≡ cellsRight o c k j && cellTest k j
+  unfolding cellsRight
+  cells-more k j = refl
+
+  seconds-more : (k : ℕ) → secondsRight o c (suc k) ≡ secondsRight o c k && cellsRight o c k width
+  unfolding secondsRight
+  seconds-more k = refl
+
   -- ## the whole test
 
   abbrev secondTest : ℕ → Bool
   secondTest k = cellsRight o c k width
 
   found : isConsistent o c ≡ true → Consistent o c
-  unfolding isConsistent rowsInside secondsRight cellsRight
+  unfolding isConsistent
   found e =
       let both = both-true (rowsInside o (c .rows) (R o)) (secondsRight o c (C o)) e in
       record {
         rows-inside = λ n p q.
-            row-found (n - 1) (each-of (rowsInside o (c .rows)) rowTest refl (λ i. refl) (R o) (both .0) (n - 1) (omega arith));
+            row-found (n - 1) (each-of (rowsInside o (c .rows)) rowTest rows-more (R o) (both .0) (n - 1) (omega arith));
         seconds-right = λ s p q j h.
-            let second = each-of (secondsRight o c) secondTest refl (λ k. refl) (C o) (both .1) (s - F o) (omega arith) in
+            let second = each-of (secondsRight o c) secondTest seconds-more (C o) (both .1) (s - F o) (omega arith) in
             eqb-true (secondCell (c .seconds) (F o) s j) (cellFrom (c .rows) (F o + (s - F o)) j (R o))
-            (each-of (cellsRight o c (s - F o)) (cellTest (s - F o)) refl (λ j. refl) width second j h)
+            (each-of (cellsRight o c (s - F o)) (cellTest (s - F o)) (cells-more (s - F o)) width second j h)
             ∙ at-place s p j;
       }
 
   pub tested : Consistent o c → isConsistent o c ≡ true
   unfolding isConsistent rowsInside secondsRight cellsRight
   tested right =
-      λ t. all-of (rowsInside o (c .rows)) rowTest refl (λ i. refl) (R o) row t
-      && all-of (secondsRight o c) secondTest refl (λ i. refl) (C o) second t
+      λ t. all-of (rowsInside o (c .rows)) rowTest rows-more refl (R o) row t
+      && all-of (secondsRight o c) secondTest seconds-more refl (C o) second t
     where
       row : (i : ℕ) → i < R o → rowTest i ≡ true
       row i q =
@@ -185,7 +199,7 @@ module _ (o : Opening) (c : Buffers) where
 
       second : (k : ℕ) → k < C o → secondTest k ≡ true
       second k q =
-          all-of (cellsRight o c k) (cellTest k) refl (λ i. refl) width
+          all-of (cellsRight o c k) (cellTest k) (cells-more k) refl width
           (λ j h. cell-tested k j (right .seconds-right (F o + k) (omega arith) (omega arith) j h))
 
   not-found : (Consistent o c → ⊥) → isConsistent o c ≡ false
