@@ -2,7 +2,7 @@
 -- the rows give. FORMAT, "The index of seconds". That is said here of any opening's value and of any cells whatever, left by a
 -- history or not, and apart from the test's own loops: of every number from 1 to R, and of every cell of every second of the
 -- window. First what is claimed, then the proof. Assumes nothing.
-use Prim.Native.Nat.{ℕ, zero, suc, _+_, _-_, _*_, _%_, _<_, _≤_, max}
+use Prim.Native.Nat.{ℕ, zero, suc, _+_, _-_, _*_, _%_, _^_, _<_, _≤_, max}
 use mathlib.Core.Path.{_≡_, refl, ap, sym, _∙_, subst}
 use mathlib.Core.Bool.{Bool, true, false, cond, not, _&&_, _||_}
 use mathlib.Core.List.{List}
@@ -15,7 +15,7 @@ use Rattle.lists.proofs.Order.{le-or-lt}
 use Rattle.answers.specs.Answer.{accepted, refused}
 use Rattle.answers.proofs.Refusals.{unless-none, unless-some, given-value}
 use Rattle.index_model.specs.declared.Opening.{Opening}
-use Rattle.index_model.specs.Cells.{width, cell, isGreatest, mergeBy, rowWithin, mergeIf, cellFrom}
+use Rattle.index_model.specs.Cells.{width, cellLimit, cell, isGreatest, mergeBy, rowWithin, mergeIf, cellFrom}
 use Rattle.index_model.specs.Buffers.{Buffers}
 use Rattle.index_model.specs.Opening.{openingRefusal, inWindow}
 use Rattle.index_model.specs.Calls.{rowsInside, cellsRight, secondsRight, isConsistent, consistencyAnswer}
@@ -25,11 +25,12 @@ use Rattle.index_model.proofs.Window.{F, C, R}
 
 -- ## what is claimed
 
--- cell j of the row of number n: cell 0 is not 0 where a record is held, and cell 3 is its second
+-- cell j of the row of number n, one of the `width` cells (24) that each number has: cell 0 is not 0 where a record is held, and
+-- cell 3 is its second
 abbrev pub rowCell : List ℕ → ℕ → ℕ → ℕ
 rowCell rows n j = getD rows (width * (n - 1) + j) 0
 
--- cell j of second s, where the window starts with second F
+-- cell j of second s, which has as many; the window starts with second F
 abbrev pub secondCell : List ℕ → ℕ → ℕ → ℕ → ℕ
 secondCell seconds F s j = getD seconds (width * (s - F) + j) 0
 
@@ -50,7 +51,7 @@ greatestTo gives (suc n) = max (greatestTo gives n) (gives (suc n))
 -- and a greatest where it leaves 3 or 4
 abbrev pub rowsGive : List ℕ → ℕ → ℕ → ℕ → ℕ
 rowsGive rows R s j =
-    cond (ltb (j % 5) 3) (sumTo (numberGives rows s j) R % 4294967296) (greatestTo (numberGives rows s j) R)
+    cond (ltb (j % 5) 3) (sumTo (numberGives rows s j) R % (2 ^ 32)) (greatestTo (numberGives rows s j) R)
 
 pub record Consistent (o : Opening) (c : Buffers) : Type 0 where
   -- no held row's second lies outside the window
@@ -82,9 +83,9 @@ module _ (rows : List ℕ) (s j : ℕ) where
       (let z : i ≡ suc i - 1 = omega arith in z)
 
   sum-more : isGreatest j ≡ false → (t : Bool) (a x : ℕ)
-      → mergeIf t j (a % 4294967296) x ≡ (a + cond t x 0) % 4294967296
+      → mergeIf t j (a % cellLimit) x ≡ (a + cond t x 0) % cellLimit
   unfolding mergeBy
-  sum-more k true a x = (λ t. mergeBy (k t) (a % 4294967296) x) ∙ omega arith
+  sum-more k true a x = (λ t. mergeBy (k t) (a % cellLimit) x) ∙ omega arith
   sum-more k false a x = omega arith
 
   greatest-more : isGreatest j ≡ true → (t : Bool) (a x : ℕ) → mergeIf t j a x ≡ max a (cond t x 0)
@@ -92,13 +93,13 @@ module _ (rows : List ℕ) (s j : ℕ) where
   greatest-more k true a x = λ t. mergeBy (k t) a x
   greatest-more k false a x = omega arith
 
-  sum-passed : isGreatest j ≡ false → (n : ℕ) → cellFrom rows s j n ≡ sumTo gives n % 4294967296
+  sum-passed : isGreatest j ≡ false → (n : ℕ) → cellFrom rows s j n ≡ sumTo gives n % cellLimit
   unfolding cellFrom sumTo
   sum-passed k zero = refl
   sum-passed k (suc i) =
       (λ t. mergeIf (rowWithin rows i s) j (sum-passed k i t) (cell rows i j))
       ∙ sum-more k (rowWithin rows i s) (sumTo gives i) (cell rows i j)
-      ∙ (λ t. (sumTo gives i + row-gives i t) % 4294967296)
+      ∙ (λ t. (sumTo gives i + row-gives i t) % cellLimit)
 
   greatest-passed : isGreatest j ≡ true → (n : ℕ) → cellFrom rows s j n ≡ greatestTo gives n
   unfolding cellFrom greatestTo
@@ -115,7 +116,7 @@ module _ (rows : List ℕ) (s j : ℕ) where
       (λ k. sum-passed (le-ltb 2 (j % 5) (omega arith)) n ∙ sym (ap by-kind (lt-ltb (j % 5) 3 k))) (le-or-lt 3 (j % 5))
     where
       by-kind : Bool → ℕ
-      by-kind t = cond t (sumTo gives n % 4294967296) (greatestTo gives n)
+      by-kind t = cond t (sumTo gives n % cellLimit) (greatestTo gives n)
 
 module _ (o : Opening) (c : Buffers) where
   -- ## the test of a row and of a cell
