@@ -1,15 +1,15 @@
 -- Where the cells agree with the ledger, each call is refused as the ledger refuses it, and what is accepted may be done; a
 -- question and the test answer as the ledger. Assumes nothing.
-use Prim.Native.Nat.{ℕ, zero, suc, _+_, _-_, _<_, _≤_}
+use Prim.Native.Nat.{ℕ, suc, _+_, _-_, _<_, _≤_}
 use mathlib.Core.Path.{_≡_, refl, ap, sym, _∙_}
-use mathlib.Core.Bool.{Bool, true, false, cond, not, _&&_, _||_}
+use mathlib.Core.Bool.{Bool, true, false, cond, not, _||_}
 use mathlib.Core.List.{List, [], _∷_}
 use mathlib.Core.Option.{Option, none, some}
 use mathlib.Core.Logic.{⊎-elim}
 use native.Mathlib.Omega.{arith}
 use lib.Dec.{eqb, leb}
 use lib.ListN.{getD, length}
-use borrow.Author.Tests.{le-leb, lt-leb, leb-false, not-false, eq-eqb}
+use borrow.Author.Tests.{le-leb, lt-leb, leb-false, not-false}
 use Rattle.lists.proofs.Order.{le-or-lt}
 use Rattle.answers.specs.Answer.{accepted, unless}
 use Rattle.record.specs.Record.{recordRefusal}
@@ -18,7 +18,7 @@ use Rattle.answers.proofs.Refusals.{then-none, then-zero, none-applies}
 use Rattle.index_model.specs.declared.Opening.{Opening}
 use Rattle.index_model.specs.Records.{refusalOf, Record, numberOf, secondOf}
 use Rattle.index_model.specs.Second.{noSecond}
-use Rattle.index_model.specs.Cells.{width, cell, blockAt, flag, rowWithin, cellFrom}
+use Rattle.index_model.specs.Cells.{cell, blockAt, flag, rowWithin}
 use Rattle.index_model.specs.Buffers.{Buffers}
 use Rattle.index_model.specs.Opening.{limitsWrong, heldWrong, openingRefusal, otherReel, isOutside, inWindow, windowPlace}
 use Rattle.index_model.specs.Calls.{
@@ -29,9 +29,6 @@ use Rattle.index_model.specs.Calls.{
   queryRefusal,
   queryAnswer,
   secondShown,
-  rowsInside,
-  cellsRight,
-  secondsRight,
   isConsistent,
   consistencyAnswer,
 }
@@ -54,6 +51,7 @@ use Rattle.index_model.proofs.Sound.{Sound}
 use Rattle.index_model.proofs.Measures.{measured, measures-records}
 use Rattle.index_model.proofs.Decoded.{second-decoded}
 use Rattle.index_model.proofs.Limits.{in-window, in-range, same-rate, opening-fine}
+use Rattle.index_model.proofs.Consistent.{at-place, tested}
 use Rattle.index_model.proofs.Agreement.{Regular, Agree, few-fit, count-own, regular-without, old-row, old-within}
 use Rattle.index_model.proofs.Window.{F, C, R}
 
@@ -202,38 +200,28 @@ module _ (o : Opening) (fine : limitsWrong o || heldWrong o ≡ false) (L : Ledg
 
   -- ## the test
 
-  rows-inside : (m : ℕ) → m ≤ R o → rowsInside o (c .rows) m ≡ true
-  unfolding rowsInside
-  rows-inside zero q = refl
-  rows-inside (suc m) q =
-      (λ t. rows-inside m (omega arith) t
-      && (eqb (agree .rows-are m (omega arith) 0 (omega arith) t) 0
-      || inWindow o (agree .rows-are m (omega arith) 3 (omega arith) t)))
-      ∙ by-entry (L (suc m)) (regular .sound (suc m))
+  held-inside : (i : ℕ) → i < R o → (cell (c .rows) i 0 ≡ 0 → ⊥)
+      → (F o ≤ cell (c .rows) i 3) × (cell (c .rows) i 3 < F o + C o)
+  held-inside i q not-empty =
+      by-entry (L (suc i)) (regular .sound (suc i)) (agree .rows-are i q 0 (omega arith)) (agree .rows-are i q 3 (omega arith))
     where
       by-entry : (held : Option Record) → ((b : Record) → held ≡ some b → Sound o b)
-          → (eqb (getD (rowFor held) 0 0) 0 || inWindow o (getD (rowFor held) 3 0)) ≡ true
-      by-entry none h = refl
-      by-entry (some b) h = (λ t. eqb (row-records b t) 0 || inWindow o (row-second b t)) ∙ h b refl .window
-
-  cells-right : (k : ℕ) → k < C o → (m : ℕ) → m ≤ width → cellsRight o c k m ≡ true
-  unfolding cellsRight
-  cells-right k hk zero q = refl
-  cells-right k hk (suc j) q =
-      (λ t. cells-right k hk j (omega arith) t && eqb (cell (c .seconds) k j) (cellFrom (c .rows) (F o + k) j (R o)))
-      ∙ eq-eqb (cell (c .seconds) k j) (cellFrom (c .rows) (F o + k) j (R o))
-      (agree .seconds-are k hk j (omega arith)
-      ∙ sym (passed (R o) L (c .rows) (agree .rows-are) (F o + k) j (omega arith) (R o) (omega arith)
-      (few-fit o L regular (F o + k) j)))
-
-  seconds-right : (m : ℕ) → m ≤ C o → secondsRight o c m ≡ true
-  unfolding secondsRight
-  seconds-right zero q = refl
-  seconds-right (suc k) q = λ t. seconds-right k (omega arith) t && cells-right k (omega arith) width (omega arith) t
+          → cell (c .rows) i 0 ≡ getD (rowFor held) 0 0 → cell (c .rows) i 3 ≡ getD (rowFor held) 3 0
+          → (F o ≤ cell (c .rows) i 3) × (cell (c .rows) i 3 < F o + C o)
+      by-entry none h e s = absurd (not-empty e)
+      by-entry (some b) h e s = in-window o (cell (c .rows) i 3) (ap (inWindow o) (s ∙ row-second b) ∙ h b refl .window)
 
   pub consistent : isConsistent o c ≡ true
-  unfolding isConsistent
-  consistent = λ t. rows-inside (R o) (omega arith) t && seconds-right (C o) (omega arith) t
+  consistent =
+      tested o c
+      (record {
+        rows-inside = λ n p q. held-inside (n - 1) (omega arith);
+        seconds-right = λ s p q j h.
+            agree .seconds-are (s - F o) (omega arith) j h
+            ∙ sym (passed (R o) L (c .rows) (agree .rows-are) (F o + (s - F o)) j h (R o) (omega arith)
+            (few-fit o L regular (F o + (s - F o)) j))
+            ∙ at-place o c s p j;
+      })
 
   pub test-answered : consistencyAnswer o c ≡ accepted true
   unfolding consistencyAnswer

@@ -3,6 +3,8 @@ pub mod Merges
 pub mod Rows
 pub mod Window
 pub mod Limits
+pub mod Loops
+pub mod Consistent
 pub mod Totals
 pub mod Differences
 pub mod Codes

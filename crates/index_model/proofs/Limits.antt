@@ -7,7 +7,7 @@ use mathlib.Core.List.{List, [], _∷_}
 use native.Mathlib.Omega.{arith}
 use lib.Dec.{T, eqb, ltb, leb, leb→le, ltb→lt}
 use lib.ListN.{length}
-use borrow.Author.Tests.{eqb-true, eqb-false, ltb-false, le-ltb, not-false}
+use borrow.Author.Tests.{eqb-true, eqb-false, ltb-false, le-ltb, le-leb, lt-ltb, not-false}
 use Rattle.lists.proofs.Truth.{left, right, held, or-false}
 use Rattle.fields.specs.Field.{valueOf}
 use Rattle.header.proofs.Sound.{of-editions}
@@ -43,6 +43,10 @@ module _ (o : Opening) where
     ltb→lt s (F o + C o)
         (right (leb (F o) s) (ltb s (F o + C o)) (held (inWindow o s) e)),
   )
+
+  pub window-in : (s : ℕ) → (F o ≤ s) × (s < F o + C o) → inWindow o s ≡ true
+  unfolding inWindow
+  window-in s w = λ t. le-leb (F o) s (w .0) t && lt-ltb s (F o + C o) (w .1) t
 
   pub in-range : (n : ℕ) → isOutside o n ≡ false → (0 < n) × (n ≤ R o)
   unfolding isOutside
