@@ -36,6 +36,10 @@ module _ (input : List ℕ) where
   inside =
       (omega (arith, far input (length input) 0), along 1985 input (length input) 0 .inside (omega arith))
 
+  -- an input that 24 does not refuse holds at most 84: so deep are the calls of the walk, and one more where it ends
+  pub few-records : length input ≤ longestInput → length records ≤ mostRecords
+  few-records h = let i = inside in omega (arith, i .0, i .1, h)
+
   -- what is written of them, with a last line of at most m bytes
   walked-within : (m : ℕ) → length (lastText (stepAt 1985 input place)) ≤ m → length walked ≤ longestLine * length records + m
   walked-within m h =

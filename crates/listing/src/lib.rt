@@ -1,6 +1,6 @@
 // The listing of a reel as text in a lent buffer, and the line of one record. FORMAT, "The listing", "Refusal numbers". Reels and
-// records are of 1985. The walk is by the reel reader, and each record is judged once. The public functions take any bytes and
-// any buffer; a refusal is a number.
+// records are of 1985. The walk is by one reel reader, kept from the first record to the last, and each record is judged once. The
+// public functions take any bytes and any buffer; a refusal is a number.
 ghost use mathlib.Core.Path.{_≡_};
 ghost use lib.ListN.{length};
 ghost use Rattle.text.specs.Placed.{shownText};
@@ -60,7 +60,8 @@ fn write_refusal(out: &mut [u8], at: usize, refusal: u8) -> usize
     text::next_of(put)
 }
 
-// The text of what stands at a place of a reel, where `end` is the place after it: a record's line, or a refusal's, or nothing.
+// The line of what stands at a place of a reel, of which `end` is the next place: a record's, which lies between the two; where
+// there is none, that of the refusal, or nothing at the end of the reel.
 fn write_turn(out: &mut [u8], at: usize, reel: &[u8], place: usize, end: usize) -> usize
     requires { ⌜ (end ≡ nextPlace 1985 (now reel) place) × Room (now out) at (turnText (now reel) place) ⌝ }
     ensures { λ r. ⌜ Written (now (out .entry)) at (turnText (now (reel .entry)) place) r (now (out .exit)) ⌝ }
@@ -75,7 +76,9 @@ fn write_turn(out: &mut [u8], at: usize, reel: &[u8], place: usize, end: usize) 
     }
 }
 
-// The lines of the records from the reader's place on, and that of the refusal that ends them.
+// The lines of the records from the reader's place on, and that of the refusal that ends them. `next` judges what stands there
+// and gives the reader back, past a record or as it was, and the reader that has moved writes on. So much less of the reel is
+// left at each call; 65,536 bytes hold at most 84 records, and the calls are no deeper.
 fn write_from(reader: Reader, out: &mut [u8], at: usize) -> usize
     requires { ⌜ (reader .edition ≡ 1985) × Room (now out) at (textFrom (now (reader .reel)) (reader .place)) ⌝ }
     ensures { λ r. ⌜ Written (now (out .entry)) at (textFrom (now (reader .entry .reel)) (reader .entry .place)) r (now (out .exit)) ⌝ }

@@ -126,7 +126,8 @@ impl<'a> Reader<'a> {
     }
 }
 
-// What stands at the place, by a reader made there: for callers that hold a reel and a place, as the lister and C.
+// What stands at the place, by a reader made there: for callers that hold a reel and a place, as C does, and the lister where its
+// walk ends.
 pub fn step_by_reader(edition: u64, reel: &[u8], place: usize) -> Step
     ensures { λ r. ⌜ shownStep r ≡ stepAt edition (now (reel .entry)) place ⌝ }
 {
