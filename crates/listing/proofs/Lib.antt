@@ -3,6 +3,7 @@ pub mod Shortest
 pub mod Longest
 pub mod Turns
 pub mod Lent
+pub mod Called
 pub mod Answers
 pub mod Cases
 pub mod Enough

@@ -61,6 +61,7 @@ use Rattle.reel.proofs.Reader.next.Symbol.{name as #mover}
 use Rattle.reel.proofs.Reader.next.Met as mover-thm
 use Rattle.numbers.specs.Writing.{Room, Written}
 use Rattle.listing.proofs.Lent.{opened, Loan, lends, comes-back}
+use Rattle.listing.proofs.Called.{From, bound, asks}
 use Rattle.listing.proofs.Turns.{left, text, turn, next-is, again-1985, all-written, falls, room-turn, room-after, written-on}
 use Rattle.listing.proofs.write_turn as liner
 use Rattle.listing.proofs.write_turn.Symbol as liner-def
@@ -89,9 +90,6 @@ module _ {M : Type 1} (𝓤 : URA M) (H : Heap 𝓤) (A : Atoms 𝓤) (mem : Mem
   abbrev Turn : Contract 𝓤
   Turn = tripleOf 𝓤 H A liner.signature (liner.spec 𝓤 H A mem run)
 
-  abbrev From : Contract 𝓤
-  From = tripleOf 𝓤 H A self.signature (self.spec 𝓤 H A mem run)
-
 -- at one choice of what the contract binds: the reader d, and the buffer at (b, o), of the bytes ys, lent under the name γ
 module _ {M : Type 1} (𝓤 : URA M) (H : Heap 𝓤) (A : Atoms 𝓤) (W : Given 𝓤 H A) (mem : Memory → SProp 𝓤) (run : Routine → Fun 𝓤)
     (κ κ′ : Lft) (q q′ : Share) (b o : ℕ) (γ : GName) (d : Reader) (ys : List ℕ) (n : ℕ) where
@@ -110,7 +108,7 @@ module _ {M : Type 1} (𝓤 : URA M) (H : Heap 𝓤) (A : Atoms 𝓤) (W : Given
 
   -- what the contract of this function binds, at a lifetime and a share for the buffer
   abbrev to : Lft → Share → Reader → GName → List ℕ → ℕ → From 𝓤 H A mem run .Ghost
-  to κ₁ q₁ r δ l m = (((κ, (κ₁, tt)), (q, (q₁, tt)), tt, (r, (out δ l, (m, tt))), (mach r ∷ [], (s ∷ [], (vint w64 m ∷ [], tt)))), tt)
+  to κ₁ q₁ r δ l m = bound 𝓤 H A mem run κ κ₁ q q₁ r (out δ l) s m
 
   abbrev Post : Val → SProp 𝓤
   Post = walkOf 𝓤 H A self.ended stayed (self.clauses 𝓤 H A mem run) .post (to κ′ q′ d γ ys n)
@@ -148,16 +146,6 @@ module _ {M : Type 1} (𝓤 : URA M) (H : Heap 𝓤) (A : Atoms 𝓤) (W : Given
       says ! asked $ frame ! $ nothing ! $ owned ! usize (Is usize) (uint-makes 𝓤 H A W w64) (r .place) _ (refl, end-fits) $ fjoin ! $
       owned ! usize (Is usize) (uint-makes 𝓤 H A W w64) (d .place) _ (refl, place-fits) $ fjoin ! $ move ! (2 ∷ 0 ∷ []) $ fjoin ! $
       owned ! usize (Is usize) (uint-makes 𝓤 H A W w64) n _ (refl, n-fits) $ fjoin ! $ move ! (1 ∷ 0 ∷ []) $ fjoin ! $ done !
-
-  -- what this function asks of its call of itself, with the reader r and the buffer lent for the lifetime ν
-  self-asks : (ν : ℕ) (δ : GName) (r : Reader) (l : List ℕ) (m : ℕ) → m < 2 ^ 64 → (r .edition ≡ 1985) × Room l m (text r)
-      → ent 𝓤 (⋆ 𝓤 H A ((‵ (flft (ν ∷ []) fullShare) ⊛ (‵ (flft κ q) ⊛ ‵ ftrue)) ∷ ‵ (Own κ r) ∷ ‵ (S (ν ∷ []) δ l) ∷ []))
-      (From 𝓤 H A mem run .pre (to (ν ∷ []) fullShare r δ l m))
-  self-asks ν δ r l m m-fits asked =
-      qed W ((‵ (flft (ν ∷ []) fullShare) ⊛ (‵ (flft κ q) ⊛ ‵ ftrue)) ∷ ‵ (Own κ r) ∷ ‵ (S (ν ∷ []) δ l) ∷ []) ∵
-      says ! asked $ split ! $ move ! (1 ∷ []) $ split ! $ move ! (2 ∷ 1 ∷ []) $ join ! $ move ! (1 ∷ 0 ∷ []) $ join ! $ frame ! $
-      nothing ! $ owned ! usize (Is usize) (uint-makes 𝓤 H A W w64) m _ (refl, m-fits) $ fjoin ! $ move ! (2 ∷ 0 ∷ []) $ fjoin ! $
-      move ! (1 ∷ 0 ∷ []) $ fjoin ! $ done !
 
   module _ (C : Calls 𝓤 H) (Λ : Loops 𝓤 H) (fm : FmC 𝓤 H (W .laws) C) (moves : Triple 𝓤 (C #mover) (Move 𝓤 H A mem run))
       (writes : Triple 𝓤 (C #liner) (Turn 𝓤 H A mem run)) where
@@ -266,9 +254,9 @@ module _ {M : Type 1} (𝓤 : URA M) (H : Heap 𝓤) (A : Atoms 𝓤) (W : Given
         ⊛ ‵ (Loan κ′ (ν′ ∷ []) q′ γ b o ε (ls .0)))))
         (lends κ′ (ν′ ∷ []) q′ γ b o 𝓤 H A W (ls .0)) $ await ! tt $ pick ! (λ ε. split ! $
         rewrite ! 0 (λ (k : ℕ). ‵ (at-length k (ν′ ∷ []) ε (ls .0))) same refl $
-        move ! (2 ∷ 3 ∷ []) $ join ! $ move ! (0 ∷ 4 ∷ 1 ∷ []) $
+        move ! (3 ∷ 2 ∷ []) $ join ! $ move ! (0 ∷ 4 ∷ 1 ∷ []) $
         use3 W (raw (From 𝓤 H A mem run .pre (to (ν′ ∷ []) fullShare r ε (ls .0) m)))
-        (self-asks ν′ ε r (ls .0) m (is′ .1)
+        (asks 𝓤 H A mem run κ (ν′ ∷ []) q fullShare r (out ε (ls .0)) s m W (is′ .1)
         (again-1985 d r (pre .0) moved, room-after d r (pre .0) moved beyond (pre .1) line)) $
         calls-from ! fm (raw (From 𝓤 H A mem run .pre (to (ν′ ∷ []) fullShare r ε (ls .0) m))) (mach r ∷ s ∷ vint w64 m ∷ [])
         (From 𝓤 H A mem run .post (to (ν′ ∷ []) fullShare r ε (ls .0) m))

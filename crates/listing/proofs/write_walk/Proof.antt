@@ -56,6 +56,7 @@ use Rattle.numbers.proofs.Writing.{room-as, written-as}
 use Rattle.listing.specs.Listing.{walkText}
 use Rattle.listing.proofs.Turns.{text, from-start}
 use Rattle.listing.proofs.Lent.{opened}
+use Rattle.listing.proofs.Called.{From, bound, asks}
 use Rattle.listing.proofs.write_from as callee
 use Rattle.listing.proofs.write_from.Symbol as callee-def
 use Rattle.listing.proofs.write_from.Symbol.{name as #callee}
@@ -72,12 +73,8 @@ stayed = (
 )
 
 module _ {M : Type 1} (𝓤 : URA M) (H : Heap 𝓤) (A : Atoms 𝓤) (mem : Memory → SProp 𝓤) (run : Routine → Fun 𝓤) where
-  -- the contracts that the walk cites
   abbrev New : Contract 𝓤
   New = tripleOf 𝓤 H A maker.signature (maker.spec 𝓤 H A mem run)
-
-  abbrev From : Contract 𝓤
-  From = tripleOf 𝓤 H A callee.signature (callee.spec 𝓤 H A mem run)
 
 module _ {M : Type 1} (𝓤 : URA M) (H : Heap 𝓤) (A : Atoms 𝓤) (W : Given 𝓤 H A) (mem : Memory → SProp 𝓤) (run : Routine → Fun 𝓤)
     (κ κ′ : Lft) (q q′ : Share) (b o : ℕ) (γ : GName) (reel : RefT (List ℕ)) (ys : List ℕ) (n : ℕ) (n-fits : n < 2 ^ 64) where
@@ -114,16 +111,7 @@ module _ {M : Type 1} (𝓤 : URA M) (H : Heap 𝓤) (A : Atoms 𝓤) (W : Given
   new-said r = exE 𝓤 _ (λ ws. snd∗ 𝓤 (sem 𝓤 H A (lasts maker.ended (κ, tt) (1985, (reel, tt)) ws)) (fact 𝓤 (r ≡ d)))
 
   abbrev to-from : From 𝓤 H A mem run .Ghost
-  to-from = (((κ, (κ′, tt)), (q, (q′, tt)), tt, (d, (out, (n, tt))), (mach d ∷ [], (s ∷ [], (vint w64 n ∷ [], tt)))), tt)
-
-  from-asks : Room ys n (walkText (walkOn 1985 (now reel)))
-      → ent 𝓤 (⋆ 𝓤 H A (((‵ (flft κ q) ⊛ ‵ ftrue) ⊛ ‵ (flft κ′ q′)) ∷ ‵ (Own κ d) ∷ ‵ S ∷ [])) (From 𝓤 H A mem run .pre to-from)
-  from-asks room =
-      qed W (((‵ (flft κ q) ⊛ ‵ ftrue) ⊛ ‵ (flft κ′ q′)) ∷ ‵ (Own κ d) ∷ ‵ S ∷ []) ∵
-      says ! (refl, room-as (from-start (now reel)) room) $
-      split ! $ split ! $ move ! (2 ∷ 1 ∷ []) $ join ! $ move ! (1 ∷ 0 ∷ []) $ join ! $ frame ! $
-      nothing ! $ owned ! usize (Is usize) (uint-makes 𝓤 H A W w64) n _ (refl, n-fits) $ fjoin ! $ move ! (2 ∷ 0 ∷ []) $ fjoin ! $
-      move ! (1 ∷ 0 ∷ []) $ fjoin ! $ done !
+  to-from = bound 𝓤 H A mem run κ κ′ q q′ d out s n
 
   exits : (r : ℕ) (u : Val) (zs : List ℕ) → Written ys n (text d) r zs → length zs ≡ length ys
       → ent 𝓤 (⋆ 𝓤 H A (‵ (usize .own r (u ∷ [])) ∷ (‵ (flft κ q) ⊛ ‵ (flft κ′ q′) ⊛ ‵ ftrue) ∷ ‵ (finally u8 γ zs) ∷ ‵ (Kept κ d) ∷ []))
@@ -179,7 +167,7 @@ module _ {M : Type 1} (𝓤 : URA M) (H : Heap 𝓤) (A : Atoms 𝓤) (W : Given
         (and-then ! (load ! (from ! (fld ! refl (stop !))) (look-in ! 13 (sub ! 1 refl (whole !)))) (no-more !)))) (from ! (stop !))
         (init ! 5 refl (tt, (tt, (record { fits = addressable .0 }, tt)))) $
         move ! (1 ∷ 4 ∷ []) $ join ! $ move ! (0 ∷ 1 ∷ 3 ∷ []) $
-        use3 W (raw (From 𝓤 H A mem run .pre to-from)) (from-asks room) $
+        use3 W (raw (From 𝓤 H A mem run .pre to-from)) (asks 𝓤 H A mem run κ κ′ q q′ d out s n W n-fits (refl, room-as (from-start (now reel)) room)) $
         calls-at ! fm (From 𝓤 H A mem run) writes to-from
         (and-then ! (load ! (from ! (stop !)) (look ! 6 refl)) (and-then ! (load ! (from ! (stop !)) (look ! 2 refl))
         (and-then ! (load ! (from ! (stop !)) (look ! 8 refl)) (no-more !)))) (λ w.
