@@ -1,5 +1,5 @@
--- The contract of `write_from`, for its own walk and for `write_walk`, which call it: what a call is passed and what it asks. Assumes
--- nothing.
+-- The contract of `write_from`, for its own walk and for `write_walk`, which call it: what a call is passed and what it asks.
+-- Assumes nothing.
 use mathlib.Core.Path.{_≡_, refl}
 use Prim.Native.Nat.{ℕ, _<_, _^_}
 use mathlib.Core.List.{List, [], _∷_}

@@ -1,5 +1,5 @@
--- A buffer that a walk by hand was lent: what the walk has on entry of it and of the parameter before it, and how the buffer is lent
--- on to a callee for a lifetime of the call and comes back. Assumes nothing.
+-- A buffer that a walk by hand was lent: what the walk has on entry of it and of the parameter before it, and how the buffer is
+-- lent on to a callee for a lifetime of the call and comes back. Assumes nothing.
 use mathlib.Core.Path.{_≡_, sym, ap, subst}
 use Prim.Native.Nat.{ℕ}
 use mathlib.Core.List.{List, [], _∷_}
@@ -49,8 +49,8 @@ module _ (κ κ′ : Lft) (q : Share) (γ : GName) (b o : ℕ) where
   abbrev value : List ℕ → List Val
   value ys = sliceVal (b, o) (length ys) ∷ []
 
-  -- what the holder keeps meanwhile, where the borrower has it under δ: the claim on it when κ′ has ended, its own borrow, open, and
-  -- both halves of what says its bytes
+  -- what the holder keeps meanwhile, where the borrower has it under δ: the claim on it when κ′ has ended, its own borrow, open,
+  -- and both halves of what says its bytes
   abbrev pub Loan : GName → List ℕ → Fml
   Loan δ ys =
       fsep (flent κ′ (Held u8 (length ys) b o δ)) (fsep (fobor κ q (Held u8 (length ys) b o γ))

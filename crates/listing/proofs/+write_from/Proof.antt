@@ -62,7 +62,8 @@ use Rattle.reel.proofs.Reader.next.Met as mover-thm
 use Rattle.numbers.specs.Writing.{Room, Written}
 use Rattle.listing.proofs.Lent.{opened, Loan, lends, comes-back}
 use Rattle.listing.proofs.Called.{From, bound, asks}
-use Rattle.listing.proofs.Turns.{left, text, turn, next-is, again-1985, all-written, falls, room-turn, room-after, written-on}
+use Rattle.listing.proofs.Turns.{left, text, turn, next-is, again-1985, all-written, falls, room-turn, room-after}
+use Rattle.listing.proofs.Turns.{written-on}
 use Rattle.listing.proofs.write_turn as liner
 use Rattle.listing.proofs.write_turn.Symbol as liner-def
 use Rattle.listing.proofs.write_turn.Symbol.{name as #liner}
@@ -196,7 +197,7 @@ module _ {M : Type 1} (𝓤 : URA M) (H : Heap 𝓤) (A : Atoms 𝓤) (W : Given
         (subst (λ (u : Val). Holds (hasTy (T′.mir erased) u) × WT u) (sym (held.spelt 𝓤 H A W κ q r v is)) (tt, wt′ .1))) $
         rewrite ! 27 (λ (u : Val). ‵ (fat fullShare (T′.mir erased) l₄ 0 u)) (held.spelt 𝓤 H A W κ q r v is) refl $
         rewrite ! 0 (λ (u : Val). ‵ (B (κ, tt) .own r (u ∷ []))) (held.spelt 𝓤 H A W κ q r v is) refl $
-        -- [what the reader moved on owns; the reader's token; what the reader owns; what the buffer does; the buffer's token; _15; …]
+        -- [what the reader moved on owns; the reader's token; what the reader owns; what the buffer does; its token; _15; …]
         assigns ! (of-opd ! (load ! (from ! (fld ! refl (stop !))) (look-in ! 33 (sub ! 2 refl (whole !))))) (from ! (stop !))
         (init ! 25 refl (tt, wt .1 .1 .1 .0)) $
         assigns ! (of-opd ! (load ! (from ! (fld ! refl (stop !))) (look-in ! 27 (sub ! 2 refl (whole !))))) (from ! (stop !))
@@ -247,7 +248,7 @@ module _ {M : Type 1} (𝓤 : URA M) (H : Heap 𝓤) (A : Atoms 𝓤) (W : Given
         assigns ! (agg ! (and-then ! (load ! (from ! (stop !)) (look ! 7 refl))
         (and-then ! (load ! (from ! (fld ! refl (stop !))) (look-in ! 31 (sub ! 1 refl (whole !)))) (no-more !)))) (from ! (stop !))
         (init ! 5 refl (tt, (tt, (record { fits = room .0 }, tt)))) $
-        -- this function itself, with the reader moved on: the buffer, whose bytes are now those that `write_turn` left, is lent again
+        -- this function itself, with the reader moved on: the buffer, with the bytes that `write_turn` left, is lent again
         rewrite ! 0 (λ (k : ℕ). ‵ (at-length k κ′ γ (ls .0))) (sym same) refl $
         lft-new ! tt (λ ν′. move ! (1 ∷ 2 ∷ []) $
         use2 W (later (some (λ (ε : GName). ‵ (at-length (length (ls .0)) (ν′ ∷ []) ε (ls .0))
@@ -292,7 +293,8 @@ module _ {M : Type 1} (𝓤 : URA M) (H : Heap 𝓤) (A : Atoms 𝓤) (W : Given
         keep ! (3 ∷ 2 ∷ 4 ∷ 1 ∷ 7 ∷ 0 ∷ []) $ join ! $ move ! (1 ∷ 0 ∷ []) $
         by ! (exits n-fits k w′ (es .1 .0) (written-on d r (pre .0) moved beyond line after) (same′ ∙ same)))))))))))
         (λ here. skips ! $ exec ! C Λ En rest (atRet En Post) $
-        assigns ! (of-opd ! (load ! (from ! (stop !)) (look ! 21 refl))) (from ! (stop !)) (init ! 35 refl (tt, record { fits = is′ .1 })) $
+        assigns ! (of-opd ! (load ! (from ! (stop !)) (look ! 21 refl))) (from ! (stop !))
+        (init ! 35 refl (tt, record { fits = is′ .1 })) $
         returns ! (look ! 35 refl) $ forget ! 11 refl $ forget ! 13 refl $ forget ! 15 refl $ forget ! 17 refl $ forget ! 19 refl $
         forget ! 21 refl $ forget ! 23 refl $ forget ! 25 refl $ forget ! 27 refl $ forget ! 29 refl $ forget ! 31 refl $
         forget ! 33 refl $ forget ! 35 refl $

@@ -28,7 +28,8 @@ use denote.Plain.{uint-makes, uint-vals, uint-tells, uint-lawful}
 use denote.Builtin.{u8, u64, usize}
 use denote.Ref.{RefT, now}
 use denote.Signature.{plain}
-use denote.Slice.{sliceVal, MutSlice, ShrSlice, slice-vals, mut-slice-tells, shr-slice-tells, shr-slice-copy, shr-slice-lawful, finally}
+use denote.Slice.{sliceVal, MutSlice, ShrSlice, slice-vals, mut-slice-tells, shr-slice-tells, shr-slice-copy}
+use denote.Slice.{shr-slice-lawful, finally}
 use denote.Slice.{Room as Addressable}
 use denote.Steps.{owned, peeks, heard, nothing}
 use denote.Triple.Statement.{Contract, Triple}
@@ -44,7 +45,7 @@ use Rattle.reel.specs.Walk.{walk as walkOn}
 use Rattle.reel.specs.Reader.{atStart}
 use Rattle.reel.specs.declared.Reader.{Reader}
 use Rattle.reel.proofs.Held as held
-use Rattle.reel.proofs.Held.{B, mach, reel-value, Own, Kept}
+use Rattle.reel.proofs.Held.{B, reel-value, Kept}
 use Rattle.reel.proofs.Contracts.{reel-type}
 use Rattle.reel.proofs.Reader.Laws as T′
 use Rattle.reel.proofs.Reader.new as maker
@@ -103,7 +104,8 @@ module _ {M : Type 1} (𝓤 : URA M) (H : Heap 𝓤) (A : Atoms 𝓤) (W : Given
   new-asks : ent 𝓤 (⋆ 𝓤 H A ((‵ (flft κ q) ⊛ ‵ ftrue) ∷ ‵ (Kept κ d) ∷ [])) (New 𝓤 H A mem run .pre to-new)
   new-asks =
       qed W ((‵ (flft κ q) ⊛ ‵ ftrue) ∷ ‵ (Kept κ d) ∷ []) ∵ move ! (1 ∷ []) $ nothing ! $ move ! (1 ∷ 0 ∷ []) $ fjoin ! $
-      owned ! u64 (Is u64) (uint-makes 𝓤 H A W w64) 1985 _ (refl, lit< tt) $ fjoin ! $ move ! (1 ∷ 0 ∷ []) $ join ! $ frame ! $ done !
+      owned ! u64 (Is u64) (uint-makes 𝓤 H A W w64) 1985 _ (refl, lit< tt) $ fjoin ! $ move ! (1 ∷ 0 ∷ []) $ join ! $ frame ! $
+      done !
 
   -- it has no `&mut`, so what its `ensured` says of last values is dropped
   new-said : (r : Reader) → ent 𝓤 (ensured 𝓤 H A maker.ended (maker.clauses 𝓤 H A mem run) (κ, tt) (1985, (reel, tt)) tt r)
@@ -114,7 +116,8 @@ module _ {M : Type 1} (𝓤 : URA M) (H : Heap 𝓤) (A : Atoms 𝓤) (W : Given
   to-from = bound 𝓤 H A mem run κ κ′ q q′ d out s n
 
   exits : (r : ℕ) (u : Val) (zs : List ℕ) → Written ys n (text d) r zs → length zs ≡ length ys
-      → ent 𝓤 (⋆ 𝓤 H A (‵ (usize .own r (u ∷ [])) ∷ (‵ (flft κ q) ⊛ ‵ (flft κ′ q′) ⊛ ‵ ftrue) ∷ ‵ (finally u8 γ zs) ∷ ‵ (Kept κ d) ∷ []))
+      → ent 𝓤 (⋆ 𝓤 H A (‵ (usize .own r (u ∷ [])) ∷ (‵ (flft κ q) ⊛ ‵ (flft κ′ q′) ⊛ ‵ ftrue) ∷ ‵ (finally u8 γ zs)
+      ∷ ‵ (Kept κ d) ∷ []))
       (Post u)
   exits r u zs e l =
       qed W (‵ (usize .own r (u ∷ [])) ∷ (‵ (flft κ q) ⊛ ‵ (flft κ′ q′) ⊛ ‵ ftrue) ∷ ‵ (finally u8 γ zs) ∷ ‵ (Kept κ d) ∷ []) ∵
@@ -167,7 +170,8 @@ module _ {M : Type 1} (𝓤 : URA M) (H : Heap 𝓤) (A : Atoms 𝓤) (W : Given
         (and-then ! (load ! (from ! (fld ! refl (stop !))) (look-in ! 13 (sub ! 1 refl (whole !)))) (no-more !)))) (from ! (stop !))
         (init ! 5 refl (tt, (tt, (record { fits = addressable .0 }, tt)))) $
         move ! (1 ∷ 4 ∷ []) $ join ! $ move ! (0 ∷ 1 ∷ 3 ∷ []) $
-        use3 W (raw (From 𝓤 H A mem run .pre to-from)) (asks 𝓤 H A mem run κ κ′ q q′ d out s n W n-fits (refl, room-as (from-start (now reel)) room)) $
+        use3 W (raw (From 𝓤 H A mem run .pre to-from))
+        (asks 𝓤 H A mem run κ κ′ q q′ d out s n W n-fits (refl, room-as (from-start (now reel)) room)) $
         calls-at ! fm (From 𝓤 H A mem run) writes to-from
         (and-then ! (load ! (from ! (stop !)) (look ! 6 refl)) (and-then ! (load ! (from ! (stop !)) (look ! 2 refl))
         (and-then ! (load ! (from ! (stop !)) (look ! 8 refl)) (no-more !)))) (λ w.
