@@ -7,10 +7,10 @@
 - Every must-fail edit says in its first line which wrong program it is, edits no proof, and finds each text that it replaces once.
 - docs/TRACE.md names every must-fail edit, and no edit that is not there.
 - The log of every edit that was tried, in target/must-fail, ends in the prover's refusal, and its first refusal is of a fact: it
-  stands in a proof, or is a fact of a function without a proof file. An error in specs/ or src/ means that the edited definition or
-  promise no longer type-checks, since no proof stands there; and a proof may be refused only because it no longer fits the edited
-  text: a name, a field or an argument that is not there, or a type of data. Such refusals show nothing. With --all, as in the
-  gate, every edit must have been tried.
+  stands in a proof, or is of a function without a proof file. An error in specs/ or src/ means that the edited definition, code or
+  promise does not type-check, since no proof stands there; and a proof can be refused only because it no longer fits the edited
+  text: a name, a field or an argument that is not there, or a type of data. Such refusals show nothing. That the fact is false
+  is for a reader of the log to say. With --all, as in the gate, every edit must have been tried.
 
 It exits with 1 where a rule is broken.
 """
@@ -19,15 +19,15 @@ import re
 import sys
 
 ROOT = pathlib.Path(__file__).resolve().parent.parent
-# A refusal of the prover's own: an error, or a fact that it found no proof of. An error that says "was not admitted" follows from
-# another refusal, which may be printed after it.
+# An error, or a fact that the prover's own search did not prove. An error that says "was not admitted" only follows from another
+# refusal, which may be printed after it.
 REFUSAL = re.compile(r"^(?!.* was not admitted).*: error: .*|^note: .*: it is not proved that .*", re.M)
 # A type of data: each of its words is a type, where a statement has values in it (`Agree o ledger cells`, `a ≡ b`).
 WORD = r"(?:[\w·]+\.)*[A-Zℕℤ]\w*"
 DATA = rf"\(?{WORD}(?:[ ()→×]+{WORD})*\)?"
 SHAPE = re.compile(
     r"can be named from here|has no field|is not a field|missing field|is given \d+ argument|writes \d+ explicit argument|parse error"
-    rf"|unexpected token|not in scope|unknown (name|module|field)|is checked against|(?:two types are|expected type) `{DATA}`"
+    rf"|unexpected token|not in scope(?! here)|unknown (name|module|field)|is checked against|(?:two types are|expected type) `{DATA}`"
 )
 faults = []
 
@@ -63,7 +63,7 @@ def check_log(name, log):
         faults.append(f"{name}: the log has no refusal of the prover's")
     elif not refusal:
         faults.append(f"{name} is refused, but no fact is")
-    elif re.match(r"\S*/(specs|src)/\S+: error:", refusal):
+    elif ": error: " in refusal and f"/{name}/proofs/" not in refusal.split(": error: ")[0]:
         faults.append(f"{name} does not type-check")
     elif SHAPE.search(refusal):
         faults.append(f"{name} is refused for its shape only")

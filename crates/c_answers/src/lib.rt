@@ -1,5 +1,6 @@
-// Answers as C and Rust take them: a struct by value with the refusal's number, and beside a refusal 0 in every other member.
-// Crate `odr` exports the calls; what they hand on is made here, one function for each answer. FORMAT, "Refusal numbers".
+// Answers as C and Rust take them: a struct by value with the refusal's number, and beside a refusal 0 in every other member; of
+// a header, the number alone, and its values in the array lent. Crate `odr` exports the calls; what they hand on is made here,
+// one function for each answer. FORMAT, "Refusal numbers".
 ghost use mathlib.Core.Path.{_≡_};
 ghost use lib.ListN.{getD};
 ghost use Rattle.lists.specs.Fill.{tab};
