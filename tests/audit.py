@@ -6,8 +6,11 @@
 - Every public function of a library has a promise (`ensures`) and none has a `requires`.
 - Every must-fail edit says in its first line which wrong program it is, edits no proof, and finds each text that it replaces once.
 - docs/TRACE.md names every must-fail edit, and no edit that is not there.
-- The log of every edit that was tried, in target/must-fail, ends in the prover's refusal, and that was not given only because the
-  proof no longer fits the code's shape: such a refusal shows nothing. With --all, as in the gate, every edit must have been tried.
+- The log of every edit that was tried, in target/must-fail, ends in the prover's refusal, and its first refusal is of a fact: it
+  stands in a proof, or is of a function without a proof file. An error in specs/ or src/ means that the edited definition, code or
+  promise does not type-check, since no proof stands there; and a proof can be refused only because it no longer fits the edited
+  text: a name, a field or an argument that is not there, or a type of data. Such refusals show nothing. That the fact is false
+  is for a reader of the log to say. With --all, as in the gate, every edit must have been tried.
 
 It exits with 1 where a rule is broken.
 """
@@ -16,7 +19,16 @@ import re
 import sys
 
 ROOT = pathlib.Path(__file__).resolve().parent.parent
-SHAPE = re.compile(r"can be named from here|has no field|parse error|unexpected token|not in scope|unknown (name|module|field)")
+# An error, or a fact that the prover's own search did not prove. An error that says "was not admitted" only follows from another
+# refusal, which may be printed after it.
+REFUSAL = re.compile(r"^(?!.* was not admitted).*: error: .*|^note: .*: it is not proved that .*", re.M)
+# A type of data: each of its words is a type, where a statement has values in it (`Agree o ledger cells`, `a ≡ b`).
+WORD = r"(?:[\w·]+\.)*[A-Zℕℤ]\w*"
+DATA = rf"\(?{WORD}(?:[ ()→×]+{WORD})*\)?"
+SHAPE = re.compile(
+    r"can be named from here|has no field|is not a field|missing field|is given \d+ argument|writes \d+ explicit argument|parse error"
+    rf"|unexpected token|not in scope(?! here)|unknown (name|module|field)|is checked against|(?:two types are|expected type) `{DATA}`"
+)
 faults = []
 
 
@@ -39,16 +51,21 @@ def check_promises():
     return count
 
 
-def first_error(log):
-    """The first error's line and the one after it, which an error with a long name runs on to."""
-    lines = log.splitlines()
-    return next((" ".join(lines[at:at + 2]) for at, line in enumerate(lines) if ": error:" in line), "")
+def first_refusal(log):
+    """The first refusal's line and the lines that it runs on to, which are indented."""
+    found = REFUSAL.search(log)
+    return re.match(r".*(?:\n  .*)*", log[found.start():])[0] if found else ""
 
 
 def check_log(name, log):
+    refusal = first_refusal(log)
     if not re.search(r"^logic=not-proved", log, re.M):
         faults.append(f"{name}: the log has no refusal of the prover's")
-    elif SHAPE.search(first_error(log)):
+    elif not refusal:
+        faults.append(f"{name} is refused, but no fact is")
+    elif ": error: " in refusal and f"/{name}/proofs/" not in refusal.split(": error: ")[0]:
+        faults.append(f"{name} does not type-check")
+    elif SHAPE.search(refusal):
         faults.append(f"{name} is refused for its shape only")
 
 

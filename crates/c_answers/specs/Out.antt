@@ -1,9 +1,10 @@
 -- What comes back across the boundary to C and Rust (c/odr.h), for each case of an answer: beside a refusal 0 throughout.
 -- FORMAT, "Refusal numbers".
 use Prim.Native.Nat.{ℕ, _*_}
-use mathlib.Core.Bool.{false}
+use mathlib.Core.Bool.{false, cond}
 use lib.IntN.{pos}
 use lib.Ieee.{Float, fin}
+use Rattle.answers.specs.Answer.{Answer}
 use Rattle.index_model.specs.Opening.{noOpening}
 use Rattle.index_open.specs.declared.OpenAnswer.{OpenAnswer}
 use Rattle.index_open.specs.declared.OpenAnswer.the-variants as OpenAnswer
@@ -27,6 +28,10 @@ use Rattle.c_answers.specs.declared.StepOut.{StepOut}
 use Rattle.c_answers.specs.declared.OpenOut.{OpenOut}
 use Rattle.c_answers.specs.declared.ConsistencyOut.{ConsistencyOut}
 use Rattle.c_answers.specs.declared.TextOut.{TextOut}
+
+-- what lent memory for one value holds after an answer: the value, or what it held beside a refusal
+abbrev pub valueOr : {A : Type 0} → A → Answer A → A
+valueOr old a = cond (a .given) (a .value) old
 
 abbrev pub frequencyRateOut : FrequencyRateAnswer → FrequencyRateOut
 frequencyRateOut (FrequencyRateAnswer.Units x) = record { refusal = 0; units = x }

@@ -1,10 +1,13 @@
-// Answers as C and Rust take them: a struct by value with the refusal's number, and beside a refusal 0 in every other member.
-// Crate `odr` exports the calls; what they hand on is made here, one function for each answer. FORMAT, "Refusal numbers".
+// Answers as C and Rust take them: a struct by value with the refusal's number, and beside a refusal 0 in every other member; of
+// a header, the number alone, and its values in the array lent. Crate `odr` exports the calls; what they hand on is made here,
+// one function for each answer. FORMAT, "Refusal numbers".
 ghost use mathlib.Core.Path.{_≡_};
 ghost use lib.ListN.{getD};
 ghost use Rattle.lists.specs.Fill.{tab};
-ghost use Rattle.c_answers.specs.Out.{longestSegment, frequencyRateOut, timeOut, phasesOut, stepOut, openOut, consistencyOut, textOut};
+ghost use Rattle.record.specs.Record.{headerAnswer};
+ghost use Rattle.c_answers.specs.Out.{valueOr, longestSegment, frequencyRateOut, timeOut, phasesOut, stepOut, openOut, consistencyOut, textOut};
 use frequency_rate::FrequencyRateAnswer;
+use header::FIELD_COUNT;
 use index_model::Opening;
 use index_open::OpenAnswer;
 use index_query::ConsistencyAnswer;
@@ -62,6 +65,19 @@ pub struct ConsistencyOut {
 pub struct TextOut {
     pub refusal: u8,
     pub length: usize,
+}
+
+// The values of a record's header go into the array lent, and only where the record is accepted. They go there as they are read:
+// an answer by value would copy them.
+pub fn header_into(edition: u64, bytes: &[u8], values: &mut [u64; FIELD_COUNT]) -> u8
+    ensures { λ r. ⌜ r ≡ headerAnswer edition (now (bytes .entry)) .number ⌝ }
+    ensures { λ _. ⌜ now (values .exit) ≡ valueOr (now (values .entry)) (headerAnswer edition (now (bytes .entry))) ⌝ }
+{
+    let refusal = record::refusal_of(edition, bytes);
+    if refusal == 0 {
+        header::read_into(edition, bytes, values);
+    }
+    refusal
 }
 
 pub fn frequency_rate_out(answer: FrequencyRateAnswer) -> FrequencyRateOut

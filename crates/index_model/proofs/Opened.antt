@@ -95,14 +95,20 @@ module _ (pattern : Record) (F C R : ℕ) (c : Buffers) (e : openRefusal pattern
   unfolding opened
   is-cleared = cond-none (openRefusal pattern F C R c) c (cleared C R c) e
 
+  rows-kept : length (cleared C R c .rows) ≡ length (c .rows)
+  rows-kept = length-over _ _ _ (omega (arith, long .0))
+
+  seconds-kept : length (cleared C R c .seconds) ≡ length (c .seconds)
+  seconds-kept = length-over _ _ _ (omega (arith, long .1))
+
   cleared-agrees : Agree o noRecords (cleared C R c)
   cleared-agrees =
       record {
-        rows-long = omega (arith, length-over (c .rows) (λ (k : ℕ). 0) (width * R) (long .0), long .0);
-        seconds-long = omega (arith, length-over (c .seconds) (λ (k : ℕ). 0) (width * C) (long .1), long .1);
-        rows-are = λ i hi j hj. over-low (c .rows) (λ (k : ℕ). 0) 0 (width * R) (width * i + j) (omega arith) ∙ sym (no-row j hj);
+        rows-long = omega (arith, rows-kept, long .0);
+        seconds-long = omega (arith, seconds-kept, long .1);
+        rows-are = λ i hi j hj. over-low (c .rows) (λ (k : ℕ). 0) 0 _ (width * i + j) (omega arith) ∙ sym (no-row j hj);
         seconds-are =
-            λ k hk j hj. over-low (c .seconds) (λ (k : ℕ). 0) 0 (width * C) (width * k + j) (omega arith)
+            λ k hk j hj. over-low (c .seconds) (λ (k : ℕ). 0) 0 _ (width * k + j) (omega arith)
             ∙ sym (nothing-held (F + k) j R);
       }
 

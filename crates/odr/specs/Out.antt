@@ -1,7 +1,6 @@
 -- What comes back across the boundary to C and Rust (c/odr.h), beside what a call answers. FORMAT, "Refusal numbers".
 use Prim.Native.Nat.{ℕ}
 use mathlib.Core.Path.{_≡_}
-use mathlib.Core.Bool.{cond}
 use mathlib.Core.List.{List}
 use lib.Ieee.{Float}
 use lib.ListN.{length, getD}
@@ -12,10 +11,6 @@ use Rattle.c_answers.specs.declared.PhasesOut.{PhasesOut}
 use Rattle.c_answers.specs.declared.StepOut.{StepOut}
 use Rattle.c_answers.specs.Out.{zeroFloat, finishedNumber, longestSegment}
 use Rattle.odr.specs.declared.SegmentOut.{SegmentOut}
-
--- what lent memory for one value holds after an answer: the value, or what it held beside a refusal
-abbrev pub valueOr : {A : Type 0} → A → Answer A → A
-valueOr old a = cond (a .given) (a .value) old
 
 -- two phases; 0 beside a refusal
 pub record PhasesTold (r : PhasesOut) (a : Answer (List Float)) : Type 0 where

@@ -21,7 +21,8 @@ ghost use Rattle.index_query.specs.Shown.{shownSecond};
 ghost use Rattle.index_means.specs.Means.{meansAnswer};
 ghost use Rattle.index_means.specs.Shown.{shownMeans};
 ghost use Rattle.listing.specs.Listing.{lineAnswer, lineAfter, listAnswer, listAfter};
-ghost use Rattle.odr.specs.Out.{valueOr, PhasesTold, SegmentTold, StepTold};
+ghost use Rattle.c_answers.specs.Out.{valueOr};
+ghost use Rattle.odr.specs.Out.{PhasesTold, SegmentTold, StepTold};
 use c_answers::ConsistencyOut;
 use c_answers::FrequencyRateOut;
 use c_answers::LONGEST_SEGMENT;
@@ -64,19 +65,13 @@ pub extern "C" fn odr_sample_rate(edition: u64, hz: u64) -> RateLineAnswer
     editions::rate_line(edition, hz)
 }
 
-// The values of a record's header, in the order of the edition's table, into the array lent. They go there as they are read: an
-// answer by value would copy them.
+// The values of a record's header, in the order of the edition's table, into the array lent.
 #[no_mangle]
 pub extern "C" fn odr_read_header(edition: u64, bytes: &[u8], values: &mut [u64; FIELD_COUNT]) -> u8
     ensures { λ r. ⌜ r ≡ headerAnswer edition (now (bytes .entry)) .number ⌝ }
     ensures { λ _. ⌜ now (values .exit) ≡ valueOr (now (values .entry)) (headerAnswer edition (now (bytes .entry))) ⌝ }
 {
-    let refusal = record::refusal_of(edition, bytes);
-    if refusal != 0 {
-        return refusal;
-    }
-    header::read_into(edition, bytes, values);
-    0
+    c_answers::header_into(edition, bytes, values)
 }
 
 // The values, taken for those of the edition, go into the header of the record; every other bit stays.

@@ -1,7 +1,8 @@
 -- The loop over the bytes of a window: the invariant says the number made so far.
 use mathlib.Core.Path.{_≡_, sym, _∙_, ap}
-use Prim.Native.Nat.{ℕ, _≤_, _*_, _-_}
+use Prim.Native.Nat.{ℕ, _≤_, _+_, _*_, _-_}
 use denote.Ref.{now}
+use lib.ListN.{getD}
 use native.Mathlib.Omega.{arith}
 use borrow.Author.Needs.{needs}
 use Rattle.bits.specs.Bits.{getBits}
@@ -34,7 +35,8 @@ loop-again : tie.Need-loop-again Inv-loop μ-loop
 loop-again c =
     let l = c .before .before in
     let a = l .before .before .args in
-    (search needs, omega (arith, more (a .from) (l .loop .k) (now (a .bytes)) (omega arith)))
+    let e : c .byte-at .result ≡ getD (now (a .bytes)) (a .from + l .loop .k) 0 = c .byte-at .ensures .0 in
+    (search needs, omega (arith, e, more (a .from) (l .loop .k) (now (a .bytes)) (omega (arith, e))))
 
 returns : tie.Need-returns Inv-loop μ-loop
 returns c =

@@ -1,4 +1,5 @@
 use mathlib.Core.Path.{_≡_, sym, _∙_, subst}
+use native.Mathlib.Omega.{arith}
 use lib.Dec.{T}
 use lib.IntN.{ℤ, pos}
 use lib.Ieee.{binary64, inFloat}
@@ -16,7 +17,7 @@ sum-back : (c : tie.After-struct-told) → let z = c .before .before .before .ar
 sum-back c = toZ-ofZ w64 _ (record { sfits = c .struct-told .given .0 .1 })
 
 returns : tie.Need-returns
-returns c = c .no-means .ensures ∙ sym (means-none _ _ (c .before .if1 .taken))
+returns c = c .no-means .ensures ∙ sym (means-none _ _ (omega (arith, c .before .if1 .taken)))
 
 int-to-float-sum : tie.Need-int-to-float-sum
 int-to-float-sum c =

@@ -1,4 +1,5 @@
 use mathlib.Core.Path.{ap, _∙_}
+use native.Mathlib.Omega.{arith}
 use Rattle.answers.specs.Answer.{accepted}
 use Rattle.answers.proofs.Refusals.{unless-none, unless-some}
 use Rattle.index_query.specs.Shown.{shownSecond}
@@ -14,7 +15,8 @@ returns c =
     let a = ask .before .before .before .args in
     let second = shownSecond (ask .query .result) in
     c .no-answer .ensures
-    ∙ unless-some (second .number) noMeansEach (secondMeans (a .o) (second .value)) (c .before .if1 .taken)
+    ∙ unless-some (second .number) noMeansEach (secondMeans (a .o) (second .value))
+    (λ z. omega (arith, c .before .if1 .taken, z))
     ∙ ap (meansBy (a .o)) (ask .query .ensures .0)
 
 returns-2 : tie.Need-returns-2
@@ -26,7 +28,8 @@ returns-2 c =
     let second = shownSecond (ask .query .result) in
     (λ t. accepted ((c .each-means .ensures ∙ (λ u. eachMeans (second .value .channels)
     (count .samples-in-records .ensures .0 u))) t))
-    ∙ unless-none (second .number) noMeansEach (secondMeans (a .o) (second .value)) (count .before .if1 .left)
+    ∙ unless-none (second .number) noMeansEach (secondMeans (a .o) (second .value))
+    (omega (arith, count .before .if1 .left))
     ∙ ap (meansBy (a .o)) (ask .query .ensures .0)
 
 pub second-means-spec : {M : Type 1} → statement M

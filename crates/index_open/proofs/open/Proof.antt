@@ -17,7 +17,7 @@ none : (c : tie.Then1)
     (lent (now (a .rows)) (now (a .seconds))) ≡ 0
 none c =
     let j = c .before in
-    sym (judged _ _ _ _ _ (j .before .before .before .opening-of .ensures) (j .judge .ensures)) ∙ c .if1 .taken
+    sym (judged _ _ _ _ _ (j .before .before .before .opening-of .ensures) (j .judge .ensures)) ∙ omega (arith, c .if1 .taken)
 
 mul-clear : tie.Need-mul-clear
 mul-clear c = omega (arith, long _ _ _ _ _ (none (c .before)) .0)

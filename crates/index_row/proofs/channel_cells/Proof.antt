@@ -31,11 +31,11 @@ mul-sum c = omega (arith, bounded (c .before) .few)
 cast-sum : tie.Need-cast-sum
 cast-sum c = omega (arith, bounded (c .before) .few)
 
-add-sum : tie.Need-add-sum
-add-sum c = made-fits (sum-made _ _ (bounded (c .before .before .before)))
-
 cast-sum-2 : tie.Need-cast-sum-2
 cast-sum-2 c = cell-fits (sum-made _ _ (bounded (c .before .before .before)))
+
+add-sum : tie.Need-add-sum
+add-sum c = made-fits (sum-made _ _ (bounded (c .before .before .before)))
 
 cast-squares : tie.Need-cast-squares
 cast-squares c = let b = bounded (c .before .before .before .before) in omega (arith, b .squared, b .few)

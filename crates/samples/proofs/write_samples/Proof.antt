@@ -11,7 +11,7 @@ part-multiplex-end : tie.Need-part-multiplex-end
 part-multiplex-end c =
     let t = c .before .before in
     let m = t .before .before .sample-count .ensures .0 in
-    let r = room _ _ _ _ _ _ (t .judge .ensures ∙ judged-by-count _ _ _ _ _ _ m) (c .before .if1 .taken) in
+    let r = room _ _ _ _ _ _ (t .judge .ensures ∙ judged-by-count _ _ _ _ _ _ m) (omega (arith, c .before .if1 .taken)) in
     omega (arith, m, c .header-bytes .ensures .0, r .inside)
 
 returns : tie.Need-returns

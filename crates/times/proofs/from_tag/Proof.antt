@@ -15,6 +15,22 @@ use Rattle.times.proofs.from_tag.Tie as tie
 returns : tie.Need-returns
 returns c = let a = c .before .args in sym (no-rate (a .hz) (a .k) (c .if1 .taken))
 
+-- from the tag on
+module _ (c : tie.Else2) where
+  abbrev rate : ℕ
+  rate = c .before .before .args .hz
+
+  abbrev behind : ℕ
+  behind = c .before .before .args .k - taggedSample
+
+  few : behind * secondUs / rate < 2 ^ 63
+  few = omega (arith, div-le-self (behind * secondUs) rate, c .before .before .pre)
+
+returns-3 : tie.Need-returns-3
+returns-3 c =
+    let a = c .before .before .args in
+    toZ-pos w64 _ (few c) ∙ sym (after-tag (a .hz) (a .k) (c .before .if1 .left) (omega (arith, c .if2 .left)))
+
 -- before the tag
 module _ (c : tie.Then2) where
   abbrev hz : ℕ
@@ -31,22 +47,6 @@ module _ (c : tie.Then2) where
 
 returns-2 : tie.Need-returns-2
 returns-2 c = negated (back c) (small c) ∙ sym (before-tag (hz c) (k c) (c .before .if1 .left) (c .if2 .taken))
-
--- from the tag on
-module _ (c : tie.Else2) where
-  abbrev rate : ℕ
-  rate = c .before .before .args .hz
-
-  abbrev behind : ℕ
-  behind = c .before .before .args .k - taggedSample
-
-  few : behind * secondUs / rate < 2 ^ 63
-  few = omega (arith, div-le-self (behind * secondUs) rate, c .before .before .pre)
-
-returns-3 : tie.Need-returns-3
-returns-3 c =
-    let a = c .before .before .args in
-    toZ-pos w64 _ (few c) ∙ sym (after-tag (a .hz) (a .k) (c .before .if1 .left) (omega (arith, c .if2 .left)))
 
 -- ## the results fit
 
