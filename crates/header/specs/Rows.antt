@@ -3,7 +3,7 @@
 use Rattle.fields.specs.declared.Field.{Field}
 use Rattle.fields.specs.Field.{word_, word_bits_to_, word_bit_until_bit_, empty-before-word_, bcd, signed}
 
--- ## words 1 to 5: flags, numbers of tape and record, length, receivers, spacecraft and station
+-- ## words 1 to 5: flags, numbers of tape and record, length, front end areas (FEA), spacecraft and station
 
 abbrev pub clockOrigin : Field
 clockOrigin = word 1 bits 1 to 1
@@ -112,7 +112,8 @@ frequencyRatePower = word 27 bits 13 to 15
 abbrev pub frequencyRateSign : Field
 frequencyRateSign = word 27 bits 16 to 16
 
--- ## words 28 to 36: phase counts, signal selectors, and the time of day of the counts, in milliseconds
+-- ## words 28 to 36: phase counts, the four selectors (TEST SIGNAL, SAMPLE CONTROL, COUNTER 1 and COUNTER 2 MODE), and the time of day
+-- of the counts, in milliseconds
 
 abbrev pub phase1 : Field
 phase1 = word 28 bit 1 until 30 bit 16
@@ -135,7 +136,8 @@ selector4 = word 34 bits 13 to 16
 abbrev pub counterTag : Field
 counterTag = word 35 bit 6 until 36 bit 16
 
--- ## own to 1985: the filter of word 24, and words 37 to 40
+-- ## own to 1985: the filter of word 24, and words 37 to 40: word 39 is the '24' COUNTER and the 'N' REGISTER, word 40 the CONVERSION
+-- MODE and the SIGNAL SELECT REGISTER
 
 abbrev pub filter : Field
 filter = word 24 bits 1 to 4
