@@ -7,7 +7,7 @@ ghost use Rattle.segments.specs.Question.{segmentRow, segmentAnswer};
 use monitor::SEGMENT_COUNT;
 
 // A row of the list: a segment's number, its first word, counted from 1 after the samples, and how many words it has.
-struct Row(u64, u8, u8);
+pub struct Row(pub u64, pub u8, pub u8);
 
 // Figure RSC-11-10-3 of 1985 as a list, in the order of the status bits; behind each row what the figure calls the segment. The
 // columns: the number in SEGMENT .. DATA, the WORD at which that begins, the count in (.. WORDS).
