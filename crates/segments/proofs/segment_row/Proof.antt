@@ -2,7 +2,7 @@ use Prim.Native.Nat.{_+_, _-_, _≤_}
 use mathlib.Core.Path.{_≡_, sym, _∙_}
 use mathlib.Core.List.{[], _∷_}
 use native.Mathlib.Omega.{arith}
-use lib.ListN.{drop}
+use lib.ListN.{drop, getD}
 use borrow.Author.Needs.{needs}
 use Rattle.monitor.specs.Monitor.{segmentCount}
 use Rattle.segments.specs.Segments.{segmentNumbers}
@@ -21,10 +21,14 @@ loop-holds : tie.Need-loop-holds Inv-loop μ-loop
 unfolding segmentRow
 loop-holds c = search needs
 
+-- of the seven rows of the code, whatever else they say, the numbers are the definition's
 returns : tie.Need-returns Inv-loop μ-loop
 returns c =
     let l = c .before .before in
-    let e = found segmentNumbers (l .before .args .number) (l .loop .row) (search needs) (number-at (_ ∷ _ ∷ _ ∷ _ ∷ _ ∷ _ ∷ _ ∷ []) (l .loop .row) ∙ c .if1 .taken) in
+    let number = l .before .args .number in
+    let own : getD segmentNumbers (l .loop .row) 0 ≡ number =
+    number-at (_ ∷ _ ∷ _ ∷ _ ∷ _ ∷ _ ∷ _ ∷ []) (l .loop .row) ∙ c .if1 .taken in
+    let e = found segmentNumbers number (l .loop .row) (search needs) own in
     (omega (arith, e, l .loop .inv .1), search needs)
 
 loop-again : tie.Need-loop-again Inv-loop μ-loop
