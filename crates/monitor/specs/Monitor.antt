@@ -8,6 +8,7 @@ use lib.ListN.{take, drop}
 use Rattle.bits.specs.Bits.{getBits}
 use Rattle.header.specs.Edition.{noSegments}
 use Rattle.sample_rates.specs.Rates.{lastSampleWord, layout1985}
+use Rattle.answers.specs.Answer.{Answer, unless}
 use Rattle.answers.specs.Refusal.{_when_, first, _then_}
 use Rattle.record.specs.Record.{recordRefusal}
 use Rattle.record.specs.Stretch.{recordRate}
@@ -61,3 +62,8 @@ rowRefusal n this earlier row =
 -- this record if the segment is new there, else the earlier one
 unfoldable pub chosenRecord : ℕ → List ℕ → List ℕ → ℕ → List ℕ
 chosenRecord n this earlier row = cond (isNew n this row) this earlier
+
+-- the bytes of `count` words from word `first` on, of the record that is chosen; none beside a refusal
+abbrev pub rowAnswer : ℕ → List ℕ → List ℕ → ℕ → ℕ → ℕ → Answer (List ℕ)
+rowAnswer n this earlier row first count =
+    unless (rowRefusal n this earlier row) [] (monitorBytes n (chosenRecord n this earlier row) first count)

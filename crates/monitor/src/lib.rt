@@ -3,7 +3,7 @@
 // FORMAT, "Monitor segments", "Refusal numbers".
 ghost use mathlib.Core.Path.{_≡_};
 ghost use Prim.Native.Nat.{_+_, _*_, _≤_};
-ghost use Rattle.monitor.specs.Monitor.{lastSampleWordOf, mostLastWord, monitorByte, monitorBytes, isNew, rowRefusal, chosenRecord};
+ghost use Rattle.monitor.specs.Monitor.{lastSampleWordOf, mostLastWord, monitorByte, monitorBytes, isNew, rowRefusal, chosenRecord, rowAnswer};
 
 // The segments of an edition that has any, a bit of the status for each.
 pub const SEGMENT_COUNT: usize = 7;
@@ -28,7 +28,7 @@ fn byte_of(edition: u64, bytes: &[u8], word: u8) -> usize
 }
 
 // The bytes of `count` words after the samples from word `first` on, as many as the record has.
-pub fn monitor_bytes<'a>(edition: u64, bytes: &'a [u8], first: u8, count: u8) -> &'a [u8]
+fn monitor_bytes<'a>(edition: u64, bytes: &'a [u8], first: u8, count: u8) -> &'a [u8]
     ensures { λ r. ⌜ now r ≡ monitorBytes edition (now (bytes .entry)) first count ⌝ }
 {
     let start = byte_of(edition, bytes, first);
@@ -54,19 +54,42 @@ pub fn refusal_of(edition: u64, this: &[u8], earlier: &[u8], row: u8) -> u8
     let in_this = is_new(edition, this, row);
     let in_earlier = is_new(edition, earlier, row);
     let not_new = answers::check(23, !in_this & !in_earlier, 0);
+    let none = editions::no_segments(edition);
     let no_row = answers::check(20, row as usize >= SEGMENT_COUNT, not_new);
-    let no_segment = answers::check(26, editions::no_segments(edition), no_row);
+    let no_segment = answers::check(26, none, no_row);
     let refusal = record::refusal_of(edition, this);
     let earlier_refusal = record::refusal_of(edition, earlier);
     answers::first_refusal(refusal, answers::first_refusal(earlier_refusal, no_segment))
 }
 
 // The record that the segment of a row is taken from: this one if it is new there, else the earlier one.
-pub fn choose_record<'a>(edition: u64, this: &'a [u8], earlier: &'a [u8], row: u8) -> &'a [u8]
+fn choose_record<'a>(edition: u64, this: &'a [u8], earlier: &'a [u8], row: u8) -> &'a [u8]
     ensures { λ r. ⌜ now r ≡ chosenRecord edition (now (this .entry)) (now (earlier .entry)) row ⌝ }
 {
     if is_new(edition, this, row) {
         return this;
     }
     earlier
+}
+
+// The bytes of `count` words from word `first` on, of the record that the segment of a row is taken from; none beside a refusal.
+pub fn chosen_bytes<'a>(
+    edition: u64,
+    this: &'a [u8],
+    earlier: &'a [u8],
+    row: u8,
+    first: u8,
+    count: u8,
+) -> &'a [u8]
+    ensures { λ r. ⌜ now r ≡ rowAnswer edition (now (this .entry)) (now (earlier .entry)) row first count .value ⌝ }
+{
+    if refusal_of(edition, this, earlier, row) != 0 {
+        return &this[0..0];
+    }
+    monitor_bytes(
+        edition,
+        choose_record(edition, this, earlier, row),
+        first,
+        count,
+    )
 }

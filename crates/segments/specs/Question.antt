@@ -3,8 +3,8 @@ use Prim.Native.Nat.{ℕ, _+_}
 use mathlib.Core.Bool.{cond}
 use mathlib.Core.List.{List, [], _∷_}
 use lib.Dec.{eqb}
-use Rattle.answers.specs.Answer.{Answer, unless}
-use Rattle.monitor.specs.Monitor.{monitorBytes, rowRefusal, chosenRecord}
+use Rattle.answers.specs.Answer.{Answer}
+use Rattle.monitor.specs.Monitor.{monitorBytes, rowAnswer}
 use Rattle.segments.specs.declared.Row.{Row}
 use Rattle.segments.specs.Segments.{segmentNumbers, firstWord, wordCount, segmentAt}
 
@@ -21,11 +21,10 @@ segmentRow number = placeIn segmentNumbers number
 abbrev pub segmentBytes : ℕ → List ℕ → Row → List ℕ
 segmentBytes n b s = monitorBytes n b (firstWord s) (wordCount s)
 
--- the segment's bytes, from this record if it is new there, else from the earlier one; none beside a refusal
-abbrev pub rowAnswer : ℕ → List ℕ → List ℕ → ℕ → Answer (List ℕ)
-rowAnswer n this earlier row =
-    unless (rowRefusal n this earlier row) [] (segmentBytes n (chosenRecord n this earlier row) (segmentAt row))
+-- the answer for a row of the list
+abbrev pub answerAt : ℕ → List ℕ → List ℕ → ℕ → Answer (List ℕ)
+answerAt n this earlier row = rowAnswer n this earlier row (firstWord (segmentAt row)) (wordCount (segmentAt row))
 
 -- by the segment's number
 unfoldable pub segmentAnswer : ℕ → List ℕ → List ℕ → ℕ → Answer (List ℕ)
-segmentAnswer n this earlier number = rowAnswer n this earlier (segmentRow number)
+segmentAnswer n this earlier number = answerAt n this earlier (segmentRow number)

@@ -44,12 +44,11 @@ pub fn segment<'a>(edition: u64, this: &'a [u8], earlier: &'a [u8], number: u64)
     ensures { λ r. ⌜ now r ≡ segmentAnswer edition (now (this .entry)) (now (earlier .entry)) number .value ⌝ }
 {
     let row = segment_row(number);
-    if monitor::refusal_of(edition, this, earlier, row) != 0 {
+    if row as usize == SEGMENT_COUNT {
         return &this[0..0];
     }
-    let chosen = monitor::choose_record(edition, this, earlier, row);
     let Row(_, first, words) = SEGMENTS[row as usize];
-    monitor::monitor_bytes(edition, chosen, first, words)
+    monitor::chosen_bytes(edition, this, earlier, row, first, words)
 }
 
 // The refusal of the same question: 25, 1 to 11, 26, 20 or 23, or 0 where `segment` gives the bytes.
