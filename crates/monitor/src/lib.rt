@@ -86,10 +86,6 @@ pub fn chosen_bytes<'a>(
     if refusal_of(edition, this, earlier, row) != 0 {
         return &this[0..0];
     }
-    monitor_bytes(
-        edition,
-        choose_record(edition, this, earlier, row),
-        first,
-        count,
-    )
+    let chosen = choose_record(edition, this, earlier, row);
+    monitor_bytes(edition, chosen, first, count)
 }
