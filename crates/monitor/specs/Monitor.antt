@@ -44,6 +44,11 @@ isNew n b row = eqb (monitorBit n b 1 (row + 1)) 1
 abbrev pub segmentCount : ℕ
 segmentCount = 7
 
+-- the place in a list, from 0, of the first entry that is the number, or the list's length where none is
+unfoldable pub placeIn : List ℕ → ℕ → ℕ
+placeIn [] number = 0
+placeIn (m ∷ ms) number = cond (eqb m number) 0 (1 + placeIn ms number)
+
 -- past the last row: there is no such segment
 abbrev pub isNoRow : ℕ → Bool
 isNoRow row = leb segmentCount row

@@ -3,10 +3,24 @@
 // FORMAT, "Monitor segments", "Refusal numbers".
 ghost use mathlib.Core.Path.{_≡_};
 ghost use Prim.Native.Nat.{_+_, _*_, _≤_};
-ghost use Rattle.monitor.specs.Monitor.{lastSampleWordOf, mostLastWord, monitorByte, monitorBytes, isNew, rowRefusal, chosenRecord, rowAnswer};
+ghost use Rattle.monitor.specs.Monitor.{placeIn, segmentCount, lastSampleWordOf, mostLastWord, monitorByte, monitorBytes, isNew, rowRefusal, chosenRecord, rowAnswer};
 
 // The segments of an edition that has any, a bit of the status for each.
 pub const SEGMENT_COUNT: usize = 7;
+
+// The row, from 0, of a segment's number among those of all rows, or the count of rows where none has it.
+pub fn row_of(numbers: [u64; SEGMENT_COUNT], number: u64) -> u8
+    ensures { λ r. ⌜ (r ≡ placeIn numbers number) × (r ≤ segmentCount) ⌝ }
+{
+    let mut row: u8 = 0;
+    while (row as usize) < SEGMENT_COUNT {
+        if numbers[row as usize] == number {
+            return row;
+        }
+        row += 1;
+    }
+    row
+}
 
 // The last word of a record's samples.
 fn last_sample_word(edition: u64, bytes: &[u8]) -> usize

@@ -10,9 +10,9 @@ use borrow.Author.Tests.{eqb-true, eqb-false, leb-true, le-leb}
 use Rattle.answers.specs.Refusal.{_when_, first, _then_}
 use Rattle.header.specs.Edition.{editionOf, noSegments}
 use Rattle.record.specs.Record.{recordRefusal}
-use Rattle.monitor.specs.Monitor.{segmentCount, isNew, isNoRow}
+use Rattle.monitor.specs.Monitor.{segmentCount, placeIn, isNew, isNoRow}
 use Rattle.segments.specs.Segments.{segmentNumbers}
-use Rattle.segments.specs.Question.{placeIn, segmentRow, segmentAnswer}
+use Rattle.segments.specs.Question.{segmentRow, segmentAnswer}
 use Rattle.segments.proofs.Answers.{refusal-number}
 
 -- each from the other

@@ -1,17 +1,10 @@
 -- The segment question: a segment is asked for by its number, with two records of one edition. FORMAT, "Monitor segments".
-use Prim.Native.Nat.{ℕ, _+_}
-use mathlib.Core.Bool.{cond}
-use mathlib.Core.List.{List, [], _∷_}
-use lib.Dec.{eqb}
+use Prim.Native.Nat.{ℕ}
+use mathlib.Core.List.{List}
 use Rattle.answers.specs.Answer.{Answer}
-use Rattle.monitor.specs.Monitor.{monitorBytes, rowAnswer}
+use Rattle.monitor.specs.Monitor.{placeIn, monitorBytes, rowAnswer}
 use Rattle.segments.specs.declared.Row.{Row}
 use Rattle.segments.specs.Segments.{segmentNumbers, firstWord, wordCount, segmentAt}
-
--- the place in a list, from 0, of the first entry that is the number, or the list's length where none is
-unfoldable pub placeIn : List ℕ → ℕ → ℕ
-placeIn [] number = 0
-placeIn (m ∷ ms) number = cond (eqb m number) 0 (1 + placeIn ms number)
 
 -- the row of a segment's number
 unfoldable pub segmentRow : ℕ → ℕ

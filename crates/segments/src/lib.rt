@@ -1,9 +1,7 @@
 // The segment question: a segment by its number, and its bytes in one of two records. The seven segments are one list, which
 // the question reads. FORMAT, "Monitor segments", "Refusal numbers".
 ghost use mathlib.Core.Path.{_≡_};
-ghost use Prim.Native.Nat.{_≤_};
-ghost use Rattle.monitor.specs.Monitor.{segmentCount};
-ghost use Rattle.segments.specs.Question.{segmentRow, segmentAnswer};
+ghost use Rattle.segments.specs.Question.{segmentAnswer};
 use monitor::SEGMENT_COUNT;
 
 // A row of the list: a segment's number, its first word, counted from 1 after the samples, and how many words it has.
@@ -21,29 +19,25 @@ const SEGMENTS: [Row; SEGMENT_COUNT] = [
     Row(8, 129, 20), // SIGNAL LEVEL SEGMENT - SLE #2
 ];
 
+// Its numbers, which a segment is asked for by.
+const NUMBERS: [u64; SEGMENT_COUNT] = [
+    SEGMENTS[0].0,
+    SEGMENTS[1].0,
+    SEGMENTS[2].0,
+    SEGMENTS[3].0,
+    SEGMENTS[4].0,
+    SEGMENTS[5].0,
+    SEGMENTS[6].0,
+];
+
 // The words of the longest segment, which is the first.
 pub const MOST_WORDS: usize = SEGMENTS[0].2 as usize;
-
-// The row, from 0, of a segment's number, or the count of rows where none has it.
-fn segment_row(number: u64) -> u8
-    ensures { λ r. ⌜ (r ≡ segmentRow number) × (r ≤ segmentCount) ⌝ }
-{
-    let mut row: u8 = 0;
-    while (row as usize) < SEGMENT_COUNT {
-        let Row(own, _, _) = SEGMENTS[row as usize];
-        if own == number {
-            return row;
-        }
-        row += 1;
-    }
-    row
-}
 
 // The bytes of a segment; none beside a refusal, whose number `segment_refusal` gives.
 pub fn segment<'a>(edition: u64, this: &'a [u8], earlier: &'a [u8], number: u64) -> &'a [u8]
     ensures { λ r. ⌜ now r ≡ segmentAnswer edition (now (this .entry)) (now (earlier .entry)) number .value ⌝ }
 {
-    let row = segment_row(number);
+    let row = monitor::row_of(NUMBERS, number);
     if row as usize == SEGMENT_COUNT {
         return &this[0..0];
     }
@@ -55,5 +49,5 @@ pub fn segment<'a>(edition: u64, this: &'a [u8], earlier: &'a [u8], number: u64)
 pub fn segment_refusal(edition: u64, this: &[u8], earlier: &[u8], number: u64) -> u8
     ensures { λ r. ⌜ r ≡ segmentAnswer edition (now (this .entry)) (now (earlier .entry)) number .number ⌝ }
 {
-    monitor::refusal_of(edition, this, earlier, segment_row(number))
+    monitor::refusal_of(edition, this, earlier, monitor::row_of(NUMBERS, number))
 }

@@ -1,26 +1,14 @@
 -- The search for a segment's number, row by row. Assumes nothing.
-use Prim.Native.Nat.{ℕ, zero, suc, _+_, _≤_, _<_}
-use mathlib.Core.Path.{_≡_, refl, ap, sym, _∙_}
-use mathlib.Core.Bool.{Bool, true, false, cond}
-use mathlib.Core.List.{List, [], _∷_, map}
+use Prim.Native.Nat.{ℕ, _+_, _≤_, _<_}
+use mathlib.Core.Path.{_≡_, ap, sym, _∙_}
+use mathlib.Core.Bool.{Bool, cond}
+use mathlib.Core.List.{List, _∷_}
 use native.Mathlib.Numerals.{add-one}
-use native.Mathlib.Omega.{arith}
 use lib.Dec.{eqb}
 use lib.ListN.{length, getD, drop, drop-of-length-le}
 use lib.Seq.{drop-cons}
 use borrow.Author.Tests.{eq-eqb, ne-eqb}
-use Rattle.monitor.specs.Monitor.{segmentCount}
-use Rattle.segments.specs.declared.Row.{Row}
-use Rattle.segments.specs.Segments.{noSegment, segmentNumber, segmentNumbers}
-use Rattle.segments.specs.Question.{placeIn, segmentRow}
-
--- ## the loop over the rows
-
--- of a list of rows the search reads the numbers alone
-pub number-at : (ss : List Row) (k : ℕ) → getD (map segmentNumber ss) k 0 ≡ segmentNumber (getD ss k noSegment)
-number-at [] k = refl
-number-at (s ∷ ss) zero = refl
-number-at (s ∷ ss) (suc k) = number-at ss k
+use Rattle.monitor.specs.Monitor.{placeIn}
 
 module _ (ms : List ℕ) (number k : ℕ) (h : k < length ms) where
   rest : drop k ms ≡ getD ms k 0 ∷ drop (k + 1) ms
