@@ -7,8 +7,8 @@ use lib.ListN.{length, take, getD, length-take}
 use lib.Seq.{ext-getD, getD-take}
 use Rattle.lists.specs.Fill.{tab}
 use Rattle.lists.proofs.Fill.{length-tab, getD-tab}
-use Rattle.monitor.specs.Monitor.{segmentAnswer}
-use Rattle.monitor.proofs.Given.{at-most}
+use Rattle.segments.specs.Question.{segmentAnswer}
+use Rattle.segments.proofs.Given.{at-most}
 use Rattle.c_answers.specs.Out.{longestSegment}
 
 -- the first bytes of a list, and then 0, begin with the list

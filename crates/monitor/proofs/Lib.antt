@@ -1,5 +1,2 @@
 pub mod Search
 pub mod Monitor
-pub mod Answers
-pub mod Places
-pub mod Given

@@ -1,48 +1,20 @@
-// The segment question: which of two records has new data of a segment, and its bytes. FORMAT, "Monitor segments", "Refusal
-// numbers".
+// The words after a record's samples: which of two records has new data of a segment, and what a segment question is refused
+// for. A segment is its row here, in the order of the status bits; numbers, starts and lengths are those of crate `segments`.
+// FORMAT, "Monitor segments", "Refusal numbers".
 ghost use mathlib.Core.Path.{_≡_};
-ghost use mathlib.Core.Bool.{false};
-ghost use Prim.Native.Nat.{_+_, _*_, _≤_, _<_};
-ghost use lib.ListN.{length};
-ghost use Rattle.header.specs.Edition.{noSegments};
-ghost use Rattle.record.specs.Record.{recordRefusal};
-ghost use Rattle.segments.specs.Segments.{monitorWords, segmentCount, segmentAt, SoundSegment};
-ghost use Rattle.monitor.specs.Search.{segmentRow};
-ghost use Rattle.monitor.specs.Monitor.{lastSampleWordOf, mostLastWord, rowAnswer, segmentAnswer};
-ghost use Rattle.monitor.specs.Shown.{StretchOf, shownPlace, Inside};
-use segments::SEGMENT_COUNT;
-use segments::Segment;
+ghost use Prim.Native.Nat.{_+_, _*_, _≤_};
+ghost use Rattle.monitor.specs.Monitor.{placeIn, segmentCount, lastSampleWordOf, mostLastWord, monitorByte, monitorBytes, isNew, rowRefusal, chosenRecord, rowAnswer};
 
-// A segment in one record: from byte `start` up to byte `end`, and whether the status bit says new data.
-struct Stretch {
-    start: usize,
-    end: usize,
-    new: bool,
-}
+// The segments of an edition that has any, a bit of the status for each.
+pub const SEGMENT_COUNT: usize = 7;
 
-// Where a segment's bytes are: in this record or in the earlier one, or the refusal.
-enum Place {
-    This { start: usize, end: usize },
-    Earlier { start: usize, end: usize },
-    Refused(u8),
-}
-
-// A row of the list of segments; its words are among the monitor words.
-fn words_of(row: usize) -> Segment
-    requires { ⌜ row < segmentCount ⌝ }
-    ensures { λ r. ⌜ (r ≡ segmentAt row) × SoundSegment r ⌝ }
+// The row, from 0, of a segment's number among those of all rows, or the count of rows where none has it.
+pub fn row_of(numbers: [u64; SEGMENT_COUNT], number: u64) -> u8
+    ensures { λ r. ⌜ (r ≡ placeIn numbers number) × (r ≤ segmentCount) ⌝ }
 {
-    segments::segment_at(row)
-}
-
-// The row, from 0, of a segment's number, or the count of rows where none has it.
-fn segment_row(number: u64) -> usize
-    ensures { λ r. ⌜ (r ≡ segmentRow number) × (r ≤ segmentCount) ⌝ }
-{
-    let mut row: usize = 0;
-    while row < SEGMENT_COUNT {
-        let Segment(own, _, _) = words_of(row);
-        if own == number {
+    let mut row: u8 = 0;
+    while (row as usize) < SEGMENT_COUNT {
+        if numbers[row as usize] == number {
             return row;
         }
         row += 1;
@@ -50,94 +22,84 @@ fn segment_row(number: u64) -> usize
     row
 }
 
-// The last word of the samples of an accepted record of an edition that has segments; the monitor words after it lie in the
-// record.
+// The last word of a record's samples.
 fn last_sample_word(edition: u64, bytes: &[u8]) -> usize
-    requires { ⌜ (recordRefusal edition (now bytes) ≡ 0) × (noSegments edition ≡ false) ⌝ }
-    ensures { λ r. ⌜ (r ≡ lastSampleWordOf edition (now (bytes .entry))) × (r ≤ mostLastWord) × (2 * (r + monitorWords) ≤ length (now (bytes .entry))) ⌝ }
+    ensures { λ r. ⌜ (r ≡ lastSampleWordOf edition (now (bytes .entry))) × (r ≤ mostLastWord) ⌝ }
 {
     let rate = record::rate_of(edition, bytes);
     rate.last_word as usize
 }
 
-// The segment of a row in an accepted record. The first word after the samples is the status, whose bit 1 is row 0's.
-fn stretch_in(edition: u64, bytes: &[u8], row: usize) -> Stretch
-    requires { ⌜ (recordRefusal edition (now bytes) ≡ 0) × (noSegments edition ≡ false) × (row < segmentCount) ⌝ }
-    ensures { λ r. ⌜ StretchOf edition (now (bytes .entry)) row r ⌝ }
+// The first byte of a word after the samples, counted from 1.
+fn byte_of(edition: u64, bytes: &[u8], word: u8) -> usize
+    ensures { λ r. ⌜ (r ≡ monitorByte edition (now (bytes .entry)) word) × (r ≤ 2 * (mostLastWord + 255)) ⌝ }
 {
-    let last_word = last_sample_word(edition, bytes);
-    let Segment(_, first, words) = words_of(row);
-    let start = 2 * (last_word + first - 1);
-    let end = start + 2 * words;
-    let status_bit = row + 1;
-    let new = bits::read_bits(bytes, 16 * last_word + status_bit - 1, 1) == 1;
-    Stretch { start, end, new }
+    let after = last_sample_word(edition, bytes) + word as usize;
+    if after == 0 {
+        return 0;
+    }
+    2 * (after - 1)
 }
 
-// The segment of a row, from this record if it is new there, else from the earlier one; both are accepted.
-fn choose_record(edition: u64, this: &[u8], earlier: &[u8], row: usize) -> Place
-    requires { ⌜ (recordRefusal edition (now this) ≡ 0) × (recordRefusal edition (now earlier) ≡ 0) × (noSegments edition ≡ false) × (row < segmentCount) ⌝ }
-    ensures { λ r. ⌜ shownPlace r (now (this .entry)) (now (earlier .entry)) ≡ rowAnswer edition (now (this .entry)) (now (earlier .entry)) row ⌝ }
-    ensures { λ r. ⌜ Inside r (now (this .entry)) (now (earlier .entry)) ⌝ }
+// The bytes of `count` words after the samples from word `first` on, as many as the record has.
+fn monitor_bytes<'a>(edition: u64, bytes: &'a [u8], first: u8, count: u8) -> &'a [u8]
+    ensures { λ r. ⌜ now r ≡ monitorBytes edition (now (bytes .entry)) first count ⌝ }
 {
-    let in_this = stretch_in(edition, this, row);
-    let in_earlier = stretch_in(edition, earlier, row);
-    if in_this.new {
-        return Place::This {
-            start: in_this.start,
-            end: in_this.end,
-        };
-    }
-    if in_earlier.new {
-        return Place::Earlier {
-            start: in_earlier.start,
-            end: in_earlier.end,
-        };
-    }
-    Place::Refused(23)
+    let start = byte_of(edition, bytes, first);
+    let end = start + 2 * count as usize;
+    let from = lists::lesser(start, bytes.len());
+    let to = lists::lesser(end, bytes.len());
+    &bytes[from..to]
 }
 
-// The segment of a number, once this record, the earlier one, the edition and the number are judged, in that order.
-fn find_place(edition: u64, this: &[u8], earlier: &[u8], number: u64) -> Place
-    ensures { λ r. ⌜ shownPlace r (now (this .entry)) (now (earlier .entry)) ≡ segmentAnswer edition (now (this .entry)) (now (earlier .entry)) number ⌝ }
-    ensures { λ r. ⌜ Inside r (now (this .entry)) (now (earlier .entry)) ⌝ }
+// Whether the segment of a row is new in a record. Word 1 is the status, whose bit 1 is row 0's.
+fn is_new(edition: u64, bytes: &[u8], row: u8) -> bool
+    ensures { λ r. ⌜ r ≡ isNew edition (now (bytes .entry)) row ⌝ }
 {
-    let refusal = record::refusal_of(edition, this);
-    if refusal != 0 {
-        return Place::Refused(refusal);
-    }
-    let earlier_refusal = record::refusal_of(edition, earlier);
-    if earlier_refusal != 0 {
-        return Place::Refused(earlier_refusal);
-    }
+    let status = byte_of(edition, bytes, 1);
+    let status_bit = row as usize + 1;
+    bits::read_bits(bytes, 8 * status + status_bit - 1, 1) == 1
+}
+
+// The refusal of a question for the segment of a row: that of this record, then of the earlier one, then 26, 20 and 23.
+pub fn refusal_of(edition: u64, this: &[u8], earlier: &[u8], row: u8) -> u8
+    ensures { λ r. ⌜ r ≡ rowRefusal edition (now (this .entry)) (now (earlier .entry)) row ⌝ }
+{
+    let in_this = is_new(edition, this, row);
+    let in_earlier = is_new(edition, earlier, row);
+    let not_new = answers::check(23, !in_this & !in_earlier, 0);
     let none = editions::no_segments(edition);
-    let row = segment_row(number);
-    let no_row = answers::check(20, row == SEGMENT_COUNT, 0);
+    let no_row = answers::check(20, row as usize >= SEGMENT_COUNT, not_new);
     let no_segment = answers::check(26, none, no_row);
-    if no_segment != 0 {
-        return Place::Refused(no_segment);
-    }
-    choose_record(edition, this, earlier, row)
+    let refusal = record::refusal_of(edition, this);
+    let earlier_refusal = record::refusal_of(edition, earlier);
+    answers::first_refusal(refusal, answers::first_refusal(earlier_refusal, no_segment))
 }
 
-// The bytes of a segment; none beside a refusal, whose number `segment_refusal` gives.
-pub fn segment<'a>(edition: u64, this: &'a [u8], earlier: &'a [u8], number: u64) -> &'a [u8]
-    ensures { λ r. ⌜ now r ≡ segmentAnswer edition (now (this .entry)) (now (earlier .entry)) number .value ⌝ }
+// The record that the segment of a row is taken from: this one if it is new there, else the earlier one.
+fn choose_record<'a>(edition: u64, this: &'a [u8], earlier: &'a [u8], row: u8) -> &'a [u8]
+    ensures { λ r. ⌜ now r ≡ chosenRecord edition (now (this .entry)) (now (earlier .entry)) row ⌝ }
 {
-    match find_place(edition, this, earlier, number) {
-        Place::This { start, end } => &this[start..end],
-        Place::Earlier { start, end } => &earlier[start..end],
-        Place::Refused(_) => &this[0..0],
+    if is_new(edition, this, row) {
+        return this;
     }
+    earlier
 }
 
-// The refusal of the same question: 25, 1 to 11, 26, 20 or 23, or 0 where `segment` gives the bytes.
-pub fn segment_refusal(edition: u64, this: &[u8], earlier: &[u8], number: u64) -> u8
-    ensures { λ r. ⌜ r ≡ segmentAnswer edition (now (this .entry)) (now (earlier .entry)) number .number ⌝ }
+// The bytes of `count` words from word `first` on, of the record that the segment of a row is taken from; none beside a refusal.
+pub fn chosen_bytes<'a>(
+    edition: u64,
+    this: &'a [u8],
+    earlier: &'a [u8],
+    row: u8,
+    first: u8,
+    count: u8,
+) -> &'a [u8]
+    ensures { λ r. ⌜ now r ≡ rowAnswer edition (now (this .entry)) (now (earlier .entry)) row first count .value ⌝ }
 {
-    match find_place(edition, this, earlier, number) {
-        Place::This { start: _, end: _ } => 0,
-        Place::Earlier { start: _, end: _ } => 0,
-        Place::Refused(n) => n,
+    if refusal_of(edition, this, earlier, row) != 0 {
+        return &this[0..0];
     }
+    let chosen = choose_record(edition, this, earlier, row);
+    monitor_bytes(edition, chosen, first, count)
 }

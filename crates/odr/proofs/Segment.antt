@@ -3,7 +3,7 @@ use Prim.Native.Nat.{ℕ}
 use mathlib.Core.Path.{_≡_, _∙_}
 use mathlib.Core.List.{List}
 use lib.ListN.{take}
-use Rattle.monitor.specs.Monitor.{segmentAnswer}
+use Rattle.segments.specs.Question.{segmentAnswer}
 use Rattle.c_answers.proofs.Segment.{room-for-segment}
 use Rattle.odr.specs.declared.SegmentOut.{SegmentOut}
 use Rattle.odr.specs.Out.{SegmentTold}

@@ -11,7 +11,7 @@ ghost use Rattle.samples.specs.InOut.{samplesRefusal, channelAfter, recordAfter
 ghost use Rattle.samples.specs.Totals.{totalsAnswer, shownTotals};
 ghost use Rattle.times.specs.SampleTime.{timeAnswer};
 ghost use Rattle.times.specs.Phases.{phaseAnswer};
-ghost use Rattle.monitor.specs.Monitor.{segmentAnswer};
+ghost use Rattle.segments.specs.Question.{segmentAnswer};
 ghost use Rattle.reel.specs.Reel.{stepAt};
 ghost use Rattle.index_model.specs.Records.{inEdition};
 ghost use Rattle.index_model.specs.Buffers.{lent};
@@ -164,10 +164,10 @@ pub extern "C" fn odr_segment<'a>(
 ) -> SegmentOut
     ensures { λ r. ⌜ SegmentTold r (segmentAnswer edition (now («this_record» .entry)) (now (earlier .entry)) number) ⌝ }
 {
-    let segment = monitor::segment(edition, this_record, earlier, number);
+    let segment = segments::segment(edition, this_record, earlier, number);
     let bytes = c_answers::segment_bytes(segment);
     SegmentOut {
-        refusal: monitor::segment_refusal(edition, this_record, earlier, number),
+        refusal: segments::segment_refusal(edition, this_record, earlier, number),
         length: segment.len(),
         bytes,
     }

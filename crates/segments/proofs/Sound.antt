@@ -9,8 +9,9 @@ use lib.ListN.{length, getD}
 use borrow.Author.Tests.{eqb-true}
 use Rattle.lists.specs.Tests.{all}
 use Rattle.lists.proofs.Truth.{left, right, each, holds}
-use Rattle.segments.specs.declared.Segment.{Segment}
-use Rattle.segments.specs.Segments.{segments, segmentCount, noSegment, firstWord, lastWord, segmentAt, SoundSegment, wordTests, soundAfter}
+use Rattle.monitor.specs.Monitor.{segmentCount}
+use Rattle.segments.specs.declared.Row.{Row}
+use Rattle.segments.specs.Segments.{segments, noSegment, firstWord, lastWord, segmentAt, SoundSegment, wordTests, soundAfter}
 
 -- the last words, which the list does not have, come out as the paper has them, so the starts and the counts belong together
 last-words : map lastWord segments ≡ 50 ∷ 63 ∷ 78 ∷ 93 ∷ 108 ∷ 128 ∷ 148 ∷ []
@@ -20,7 +21,7 @@ last-words = refl
 segments-sound : T (soundAfter 5 segments)
 segments-sound = tt
 
-of-test : (before : ℕ) (s : Segment) → T (all (wordTests before s)) → SoundSegment s
+of-test : (before : ℕ) (s : Row) → T (all (wordTests before s)) → SoundSegment s
 of-test before s t =
     let after : firstWord s ≡ before + 1 = eqb-true (firstWord s) (before + 1) (holds _ (each (wordTests before s) 0 t)) in
     record {
@@ -30,7 +31,7 @@ of-test before s t =
       end = leb→le _ _ (each (wordTests before s) 3 t);
     }
 
-in-rows : (before : ℕ) (ss : List Segment) (row : ℕ) → row < length ss → T (soundAfter before ss)
+in-rows : (before : ℕ) (ss : List Row) (row : ℕ) → row < length ss → T (soundAfter before ss)
     → SoundSegment (getD ss row noSegment)
 in-rows before [] row h t = absurd (not-suc-le-zero h)
 in-rows before (s ∷ ss) zero h t = of-test before s (left (all (wordTests before s)) (soundAfter (lastWord s) ss) t)

@@ -1,20 +1,20 @@
 -- The seven segments of the power monitor as one list, and its rule. FORMAT, "Monitor segments".
 use Prim.Native.Nat.{ℕ, _+_, _-_, _≤_, max}
 use mathlib.Core.Bool.{Bool, true, _&&_}
-use mathlib.Core.List.{List, [], _∷_}
+use mathlib.Core.List.{List, [], _∷_, map}
 use lib.Dec.{eqb, leb}
-use lib.ListN.{length, getD}
+use lib.ListN.{getD}
 use Rattle.lists.specs.Tests.{all}
-use Rattle.sample_rates.specs.Rates.{layout1985}
-use Rattle.segments.specs.declared.Segment.{Segment}
+use Rattle.monitor.specs.Monitor.{monitorWords}
+use Rattle.segments.specs.declared.Row.{Row}
 
 -- a row: the segment's number, its first word, counted from 1 after N, and how many words it has
-abbrev pub segment : ℕ → ℕ → ℕ → Segment
+abbrev pub segment : ℕ → ℕ → ℕ → Row
 segment number first words = record { 0 = number; 1 = first; 2 = words }
 
 -- Figure RSC-11-10-3 of 1985 as a list, in the order of the status bits; behind each row what the figure calls the segment. The
 -- columns: the number in SEGMENT .. DATA, the WORD at which that begins, the count in (.. WORDS)
-abbrev pub segments : List Segment
+abbrev pub segments : List Row
 segments =
     segment 7 6 45 ∷  -- CONFIGURATION SEGMENT
     segment 5 51 13 ∷  -- STATUS SEGMENT
@@ -25,43 +25,39 @@ segments =
     segment 8 129 20 ∷  -- SIGNAL LEVEL SEGMENT - SLE #2
     []
 
-abbrev pub segmentCount : ℕ
-segmentCount = length segments
-
 -- what stands past the end of the list
-abbrev pub noSegment : Segment
+abbrev pub noSegment : Row
 noSegment = segment 0 0 0
 
 -- what a row says
-abbrev pub segmentNumber : Segment → ℕ
+abbrev pub segmentNumber : Row → ℕ
 segmentNumber s = s .0
 
-abbrev pub firstWord : Segment → ℕ
+abbrev pub firstWord : Row → ℕ
 firstWord s = s .1
 
-abbrev pub wordCount : Segment → ℕ
+abbrev pub wordCount : Row → ℕ
 wordCount s = s .2
 
-abbrev pub lastWord : Segment → ℕ
+abbrev pub lastWord : Row → ℕ
 lastWord s = firstWord s + wordCount s - 1
 
-abbrev pub segmentAt : ℕ → Segment
+abbrev pub segmentAt : ℕ → Row
 segmentAt row = getD segments row noSegment
 
+abbrev pub segmentNumbers : List ℕ
+segmentNumbers = map segmentNumber segments
+
 -- the words of the longest segment of a list
-abbrev pub mostIn : List Segment → ℕ
+abbrev pub mostIn : List Row → ℕ
 mostIn [] = 0
 mostIn (s ∷ ss) = max (wordCount s) (mostIn ss)
 
 abbrev pub mostWords : ℕ
 mostWords = mostIn segments
 
--- the words after the samples, in an edition that has segments: 150, as its layout says
-abbrev pub monitorWords : ℕ
-monitorWords = layout1985 .monitor-words
-
 -- a segment has words, no more than the longest, and they are among the monitor words
-pub record SoundSegment (s : Segment) : Type 0 where
+pub record SoundSegment (s : Row) : Type 0 where
   pub first : 1 ≤ firstWord s
   pub some : 1 ≤ wordCount s
   pub most : wordCount s ≤ mostWords
@@ -69,7 +65,7 @@ pub record SoundSegment (s : Segment) : Type 0 where
 
 -- the one test of the list: each segment starts at the word after the last one of the row before, has a word but no more than the
 -- longest, and ends by the last monitor word
-abbrev pub wordTests : ℕ → Segment → List Bool
+abbrev pub wordTests : ℕ → Row → List Bool
 wordTests before s =
     eqb (firstWord s) (before + 1) ∷
     leb 1 (wordCount s) ∷
@@ -77,6 +73,6 @@ wordTests before s =
     leb (lastWord s) monitorWords ∷
     []
 
-abbrev pub soundAfter : ℕ → List Segment → Bool
+abbrev pub soundAfter : ℕ → List Row → Bool
 soundAfter before [] = true
 soundAfter before (s ∷ ss) = all (wordTests before s) && soundAfter (lastWord s) ss

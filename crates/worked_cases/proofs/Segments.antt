@@ -2,13 +2,14 @@
 -- length gives another answer. Assumes nothing.
 use Prim.Native.Nat.{ℕ, zero, suc, _+_, _-_, _*_, _≤_, _<_, min}
 use mathlib.Core.Path.{_≡_, refl, ap, sym, _∙_}
-use mathlib.Core.Bool.{true, false}
-use mathlib.Core.List.{List}
+use mathlib.Core.Bool.{Bool, true, false, cond, not, _&&_}
+use mathlib.Core.List.{List, [], _∷_}
 use mathlib.Core.Logic.{⊎-elim}
 use native.Mathlib.Nat.{le-of-suc-le-suc, not-suc-le-zero}
 use native.Mathlib.Omega.{arith}
 use lib.Dec.{T}
 use lib.ListN.{length, take, drop, getD, length-take, length-drop, List·getD-eq-default}
+use borrow.Author.Tests.{lt-leb}
 use lib.Seq.{getD-take, getD-drop, getD-append-add}
 use Rattle.bits.specs.Bits.{getBits, num, bitAt}
 use Rattle.bits.specs.Decimal.{digits}
@@ -21,15 +22,15 @@ use Rattle.lists.specs.Fill.{tab}
 use Rattle.lists.proofs.Fill.{getD-tab}
 use Rattle.lists.proofs.Order.{le-or-lt}
 use Rattle.lists.proofs.Truth.{each, holds}
-use Rattle.answers.specs.Answer.{Answer, accepted}
+use Rattle.answers.specs.Answer.{Answer, accepted, unless}
+use Rattle.answers.specs.Refusal.{_when_, first, _then_}
 use Rattle.record.specs.Record.{recordRefusal}
 use Rattle.record.specs.Stretch.{recordRate}
-use Rattle.segments.specs.declared.Segment.{Segment}
-use Rattle.segments.specs.Segments.{segmentCount, segmentAt, firstWord, wordCount, SoundSegment}
+use Rattle.monitor.specs.Monitor.{segmentCount, lastSampleWordOf, monitorBytes, isNew, chosenRecord}
+use Rattle.segments.specs.declared.Row.{Row}
+use Rattle.segments.specs.Segments.{segmentAt, firstWord, wordCount, SoundSegment}
+use Rattle.segments.specs.Question.{segmentRow, segmentBytes, segmentAnswer}
 use Rattle.segments.proofs.Sound.{sound-segment}
-use Rattle.monitor.specs.Search.{segmentRow}
-use Rattle.monitor.specs.Monitor.{lastSampleWordOf, isNew, segmentBytes, segmentAnswer}
-use Rattle.monitor.proofs.Answers.{new-in-this}
 use Rattle.worked_cases.specs.Numbered.{wordsFrom, beforeMonitor, numbered}
 
 -- ## the record
@@ -93,12 +94,12 @@ told f g some e = ⊎-elim within past (le-or-lt f 155)
 
 -- ## the bytes of a segment tell its start and its length
 
-module _ (s : Segment) where
+module _ (s : Row) where
   abbrev start : ℕ
   start = 2 * (240 + firstWord s - 1)
 
   shown : segmentBytes 1985 numbered s ≡ take (2 * wordCount s) (drop start numbered)
-  unfolding segmentBytes
+  unfolding monitorBytes
   shown = ap (λ (m : ℕ). take (2 * wordCount s) (drop (2 * (m + firstWord s - 1)) numbered)) last-word
 
   size : length (segmentBytes 1985 numbered s) ≡ min (2 * wordCount s) (790 - start)
@@ -113,7 +114,7 @@ module _ (s : Segment) where
       ∙ getD-take (2 * wordCount s) (drop start numbered) 1 0 (omega arith)
       ∙ getD-drop start numbered 1 0
 
-module _ (s t : Segment) (sound : SoundSegment t) (same : segmentBytes 1985 numbered s ≡ segmentBytes 1985 numbered t) where
+module _ (s t : Row) (sound : SoundSegment t) (same : segmentBytes 1985 numbered s ≡ segmentBytes 1985 numbered t) where
   whole : min (2 * wordCount t) (790 - start t) ≡ 2 * wordCount t
   whole = omega (arith, sound .first, sound .some, sound .end)
 
@@ -133,19 +134,26 @@ module _ (s t : Segment) (sound : SoundSegment t) (same : segmentBytes 1985 numb
 
 -- ## what the segment question answers
 
+-- of this record asked with itself, by its refusal, whether the edition has no segments, whether there is no such row, and the
+-- status bit
+abbrev answerBy : ℕ → ℕ → Bool → Bool → Bool → Answer (List ℕ)
+answerBy row k lacks none new =
+    unless (k then k then first (26 when lacks ∷ 20 when none ∷ 23 when (not new && not new) ∷ [])) []
+    (segmentBytes 1985 (cond new numbered numbered) (segmentAt row))
+
 module _ (number : ℕ) (h : segmentRow number < segmentCount) where
-  abbrev own : Segment
+  abbrev own : Row
   own = segmentAt (segmentRow number)
 
   -- on this record it is the bytes of the list's row
   pub answered : segmentAnswer 1985 numbered numbered number ≡ accepted (segmentBytes 1985 numbered own)
-  unfolding segmentAnswer
+  unfolding segmentAnswer chosenRecord
   answered =
       let row = segmentRow number in
-      sym (new-in-this 1985 numbered numbered row is-accepted is-accepted has-segments h (is-new row h))
+      λ i. answerBy row (is-accepted i) (has-segments i) (lt-leb segmentCount row h i) (is-new row h i)
 
   -- and no row with another start or another length has these bytes: a list with one number changed does not keep the promise
-  pub only-these-words : (s : Segment) → segmentAnswer 1985 numbered numbered number ≡ accepted (segmentBytes 1985 numbered s)
+  pub only-these-words : (s : Row) → segmentAnswer 1985 numbered numbered number ≡ accepted (segmentBytes 1985 numbered s)
       → (firstWord s ≡ firstWord own) × (wordCount s ≡ wordCount own)
   only-these-words s e =
       let same = ap (λ (a : Answer (List ℕ)). a .value) (sym e ∙ answered) in
