@@ -26,7 +26,7 @@ use denote.Triple.Walked.{says}
 use Rattle.reel.specs.declared.Reader.{Reader}
 use Rattle.reel.proofs.Held.{mach, Own}
 use Rattle.numbers.specs.Writing.{Room}
-use Rattle.listing.proofs.Turns.{text}
+use Rattle.listing.proofs.TextFrom.{text}
 use Rattle.listing.proofs.write_from as callee
 
 module _ {M : Type 1} (𝓤 : URA M) (H : Heap 𝓤) (A : Atoms 𝓤) (mem : Memory → SProp 𝓤) (run : Routine → Fun 𝓤) where

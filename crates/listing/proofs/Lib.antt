@@ -1,7 +1,7 @@
 pub mod Line
 pub mod Shortest
 pub mod Longest
-pub mod Turns
+pub mod TextFrom
 pub mod Lent
 pub mod Called
 pub mod Answers

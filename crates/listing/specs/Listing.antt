@@ -57,8 +57,8 @@ abbrev pub textFrom : List ℕ → ℕ → List ℕ
 textFrom reel place = walkText (walkFrom 1985 reel (length reel) place)
 
 -- of them, the line of what stands at the place: a record's, or a refusal's; nothing at the end of the reel
-unfoldable pub turnText : List ℕ → ℕ → List ℕ
-turnText reel place =
+unfoldable pub lineAt : List ℕ → ℕ → List ℕ
+lineAt reel place =
     cond (isRecord (stepAt 1985 reel place)) (recordText (recordAt 1985 reel place)) (lastText (stepAt 1985 reel place))
 
 -- the header line comes first; 24 is judged before any record

@@ -8,7 +8,7 @@ ghost use Rattle.text.specs.Text.{refusedLine};
 ghost use Rattle.numbers.specs.Writing.{Room, Written};
 ghost use Rattle.reel.specs.Reel.{nextPlace};
 ghost use Rattle.reel.specs.Walk.{walk};
-ghost use Rattle.listing.specs.Listing.{columnsOf, recordText, turnText, textFrom, walkText, listing, longestListing, textOver};
+ghost use Rattle.listing.specs.Listing.{columnsOf, recordText, lineAt, textFrom, walkText, listing, longestListing, textOver};
 ghost use Rattle.listing.specs.Listing.{lineAnswer, lineAfter, listAnswer, listAfter};
 ghost use Rattle.listing.specs.Shown.{shownList};
 use header::EDITION_1985;
@@ -62,9 +62,9 @@ fn write_refusal(out: &mut [u8], at: usize, refusal: u8) -> usize
 
 // The line of what stands at a place of a reel, of which `end` is the next place: a record's, which lies between the two; where
 // there is none, that of the refusal, or nothing at the end of the reel.
-fn write_turn(out: &mut [u8], at: usize, reel: &[u8], place: usize, end: usize) -> usize
-    requires { ⌜ (end ≡ nextPlace 1985 (now reel) place) × Room (now out) at (turnText (now reel) place) ⌝ }
-    ensures { λ r. ⌜ Written (now (out .entry)) at (turnText (now (reel .entry)) place) r (now (out .exit)) ⌝ }
+fn write_line(out: &mut [u8], at: usize, reel: &[u8], place: usize, end: usize) -> usize
+    requires { ⌜ (end ≡ nextPlace 1985 (now reel) place) × Room (now out) at (lineAt (now reel) place) ⌝ }
+    ensures { λ r. ⌜ Written (now (out .entry)) at (lineAt (now (reel .entry)) place) r (now (out .exit)) ⌝ }
 {
     if place < end {
         return write_record(out, at, &reel[place..end]);
@@ -86,7 +86,7 @@ fn write_from(reader: Reader, out: &mut [u8], at: usize) -> usize
     let moved = reader.next();
     let place = reader.place;
     let end = moved.place;
-    let next = write_turn(out, at, reader.reel, place, end);
+    let next = write_line(out, at, reader.reel, place, end);
     if place < end {
         return write_from(moved, out, next);
     }

@@ -62,12 +62,12 @@ use Rattle.reel.proofs.Reader.next.Met as mover-thm
 use Rattle.numbers.specs.Writing.{Room, Written}
 use Rattle.listing.proofs.Lent.{opened, Loan, lends, comes-back}
 use Rattle.listing.proofs.Called.{From, bound, asks}
-use Rattle.listing.proofs.Turns.{left, text, turn, next-is, again-1985, all-written, falls, room-turn, room-after}
-use Rattle.listing.proofs.Turns.{written-on}
-use Rattle.listing.proofs.write_turn as liner
-use Rattle.listing.proofs.write_turn.Symbol as liner-def
-use Rattle.listing.proofs.write_turn.Symbol.{name as #liner}
-use Rattle.listing.proofs.write_turn.Met as liner-thm
+use Rattle.listing.proofs.TextFrom.{left, text, line, next-is, again-1985, all-written, falls, room-line, room-after}
+use Rattle.listing.proofs.TextFrom.{written-on}
+use Rattle.listing.proofs.write_line as liner
+use Rattle.listing.proofs.write_line.Symbol as liner-def
+use Rattle.listing.proofs.write_line.Symbol.{name as #liner}
+use Rattle.listing.proofs.write_line.Met as liner-thm
 use Rattle.listing.proofs.write_from as self
 use Rattle.listing.proofs.write_from.Key.{name as #self}
 use Rattle.listing.proofs.+write_from as cycle
@@ -88,8 +88,8 @@ module _ {M : Type 1} (𝓤 : URA M) (H : Heap 𝓤) (A : Atoms 𝓤) (mem : Mem
   abbrev Move : Contract 𝓤
   Move = Method reader is-moved 𝓤 H A
 
-  abbrev Turn : Contract 𝓤
-  Turn = tripleOf 𝓤 H A liner.signature (liner.spec 𝓤 H A mem run)
+  abbrev Line : Contract 𝓤
+  Line = tripleOf 𝓤 H A liner.signature (liner.spec 𝓤 H A mem run)
 
 -- at one choice of what the contract binds: the reader d, and the buffer at (b, o), of the bytes ys, lent under the name γ
 module _ {M : Type 1} (𝓤 : URA M) (H : Heap 𝓤) (A : Atoms 𝓤) (W : Given 𝓤 H A) (mem : Memory → SProp 𝓤) (run : Routine → Fun 𝓤)
@@ -125,9 +125,9 @@ module _ {M : Type 1} (𝓤 : URA M) (H : Heap 𝓤) (A : Atoms 𝓤) (W : Given
       nothing ! $ owned ! usize (Is usize) (uint-makes 𝓤 H A W w64) n _ (refl, n-fits) $ fjoin ! $ move ! (3 ∷ 0 ∷ []) $ fjoin ! $
       move ! (2 ∷ 0 ∷ []) $ fjoin ! $ frame ! $ done !
 
-  -- what `write_turn` is passed, with the buffer lent for the lifetime ν under the name δ, and what it asks
-  abbrev to-turn : ℕ → GName → Reader → Turn 𝓤 H A mem run .Ghost
-  to-turn ν δ r = (
+  -- what `write_line` is passed, with the buffer lent for the lifetime ν under the name δ, and what it asks
+  abbrev to-line : ℕ → GName → Reader → Line 𝓤 H A mem run .Ghost
+  to-line ν δ r = (
     (
       (ν ∷ [], (κ, tt)),
       (fullShare, (q, tt)),
@@ -138,18 +138,18 @@ module _ {M : Type 1} (𝓤 : URA M) (H : Heap 𝓤) (A : Atoms 𝓤) (W : Given
     tt,
   )
 
-  turn-asks : n < 2 ^ 64 → d .place < 2 ^ 64 → (ν : ℕ) (δ : GName) (r : Reader) → r .place < 2 ^ 64
-      → (r .place ≡ nextPlace 1985 (now (d .reel)) (d .place)) × Room ys n (turn d)
+  line-asks : n < 2 ^ 64 → d .place < 2 ^ 64 → (ν : ℕ) (δ : GName) (r : Reader) → r .place < 2 ^ 64
+      → (r .place ≡ nextPlace 1985 (now (d .reel)) (d .place)) × Room ys n (line d)
       → ent 𝓤 (⋆ 𝓤 H A ((‵ (flft (ν ∷ []) fullShare) ⊛ (‵ (flft κ q) ⊛ ‵ ftrue)) ∷ ‵ (S (ν ∷ []) δ ys) ∷ ‵ (Kept κ d) ∷ []))
-      (Turn 𝓤 H A mem run .pre (to-turn ν δ r))
-  turn-asks n-fits place-fits ν δ r end-fits asked =
+      (Line 𝓤 H A mem run .pre (to-line ν δ r))
+  line-asks n-fits place-fits ν δ r end-fits asked =
       qed W ((‵ (flft (ν ∷ []) fullShare) ⊛ (‵ (flft κ q) ⊛ ‵ ftrue)) ∷ ‵ (S (ν ∷ []) δ ys) ∷ ‵ (Kept κ d) ∷ []) ∵
       says ! asked $ frame ! $ nothing ! $ owned ! usize (Is usize) (uint-makes 𝓤 H A W w64) (r .place) _ (refl, end-fits) $ fjoin ! $
       owned ! usize (Is usize) (uint-makes 𝓤 H A W w64) (d .place) _ (refl, place-fits) $ fjoin ! $ move ! (2 ∷ 0 ∷ []) $ fjoin ! $
       owned ! usize (Is usize) (uint-makes 𝓤 H A W w64) n _ (refl, n-fits) $ fjoin ! $ move ! (1 ∷ 0 ∷ []) $ fjoin ! $ done !
 
   module _ (C : Calls 𝓤 H) (Λ : Loops 𝓤 H) (fm : FmC 𝓤 H (W .laws) C) (moves : Triple 𝓤 (C #mover) (Move 𝓤 H A mem run))
-      (writes : Triple 𝓤 (C #liner) (Turn 𝓤 H A mem run)) where
+      (writes : Triple 𝓤 (C #liner) (Line 𝓤 H A mem run)) where
     -- the contract of this function at less of a reel: all that the walk knows of its call of itself
     abbrev Below : Type 1
     Below = (y : From 𝓤 H A mem run .Ghost) → left (y .0 .3 .0) < left d
@@ -209,16 +209,16 @@ module _ {M : Type 1} (𝓤 : URA M) (H : Heap 𝓤) (A : Atoms 𝓤) (W : Given
         (init ! 15 refl (tt, (tt, (record { fits = room .0 }, tt)))) $
         assigns ! (of-opd ! (load ! (from ! (fld ! refl (stop !))) (look-in ! 33 (sub ! 1 refl (whole !))))) (from ! (stop !))
         (init ! 13 refl (tt, wt .1 .1 .0)) $
-        -- `write_turn`: the buffer is lent for the lifetime ν
+        -- `write_line`: the buffer is lent for the lifetime ν
         move ! (2 ∷ []) $ use1 W (‵ (Kept κ d) ⊛ ‵ (Own κ d)) (held.with-reel 𝓤 H A W κ q d) $ split ! $
         lft-new ! tt (λ ν. move ! (5 ∷ 6 ∷ []) $
         use2 W (later (some (λ (δ : GName). ‵ (S (ν ∷ []) δ ys) ⊛ ‵ (Loan κ′ (ν ∷ []) q′ γ b o δ ys))))
         (lends κ′ (ν ∷ []) q′ γ b o 𝓤 H A W ys) $ await ! tt $ pick ! (λ δ. split ! $
         move ! (2 ∷ 6 ∷ []) $ join ! $ move ! (0 ∷ 1 ∷ 3 ∷ []) $
-        use3 W (raw (Turn 𝓤 H A mem run .pre (to-turn ν δ r)))
-        (turn-asks n-fits (wt .1 .1 .1 .0 .fits) ν δ r (wt′ .1 .1 .1 .0 .fits)
-        (next-is d r (pre .0) moved, room-turn (now (d .reel)) (d .place) (pre .1))) $
-        calls-at ! fm (Turn 𝓤 H A mem run) writes (to-turn ν δ r)
+        use3 W (raw (Line 𝓤 H A mem run .pre (to-line ν δ r)))
+        (line-asks n-fits (wt .1 .1 .1 .0 .fits) ν δ r (wt′ .1 .1 .1 .0 .fits)
+        (next-is d r (pre .0) moved, room-line (now (d .reel)) (d .place) (pre .1))) $
+        calls-at ! fm (Line 𝓤 H A mem run) writes (to-line ν δ r)
         (and-then ! (load ! (from ! (stop !)) (look ! 14 refl)) (and-then ! (load ! (from ! (stop !)) (look ! 28 refl))
         (and-then ! (load ! (from ! (stop !)) (look ! 12 refl)) (and-then ! (load ! (from ! (stop !)) (look ! 24 refl))
         (and-then ! (load ! (from ! (stop !)) (look ! 22 refl)) (no-more !)))))) (λ w.
@@ -228,8 +228,8 @@ module _ {M : Type 1} (𝓤 : URA M) (H : Heap 𝓤) (A : Atoms 𝓤) (W : Given
         split ! $ move ! (1 ∷ []) $
         use1 W (some (λ (ls : List ℕ × (Unit {0} × (Unit {0} × (Unit {0} × (Unit {0} × Unit {0}))))).
         ‵ (lasts liner.ended (ν ∷ [], (κ, tt)) (out δ ys, (n, (d .reel, (d .place, (r .place, tt))))) ls) ⊛ raw
-        (fact 𝓤 (Written ys n (turn d) m (ls .0))))) (id⊢ 𝓤 _) $ pick ! (λ ls. split ! $ move ! (1 ∷ []) $
-        heard ! (Written ys n (turn d) m (ls .0)) (λ line. fsplit ! $ fsplit ! $ move ! (1 ∷ []) $ feqL ! (λ same.
+        (fact 𝓤 (Written ys n (line d) m (ls .0))))) (id⊢ 𝓤 _) $ pick ! (λ ls. split ! $ move ! (1 ∷ []) $
+        heard ! (Written ys n (line d) m (ls .0)) (λ wrote. fsplit ! $ fsplit ! $ move ! (1 ∷ []) $ feqL ! (λ same.
         move ! (2 ∷ []) $ split ! $ move ! (1 ∷ []) $ facts ! usize (Is usize) (shows 𝓤 H A usize) m (w ∷ []) (λ is′.
         land ! (from ! (stop !)) (init ! 22 refl (uint-lawful 𝓤 H A W w64 .typed m _ is′ .0)) $
         rewrite ! 22 (λ (u : Val). ‵ (fat fullShare (tyInt w64) l₇ 0 u)) (ap only (is′ .0)) refl $
@@ -248,7 +248,7 @@ module _ {M : Type 1} (𝓤 : URA M) (H : Heap 𝓤) (A : Atoms 𝓤) (W : Given
         assigns ! (agg ! (and-then ! (load ! (from ! (stop !)) (look ! 7 refl))
         (and-then ! (load ! (from ! (fld ! refl (stop !))) (look-in ! 31 (sub ! 1 refl (whole !)))) (no-more !)))) (from ! (stop !))
         (init ! 5 refl (tt, (tt, (record { fits = room .0 }, tt)))) $
-        -- this function itself, with the reader moved on: the buffer, with the bytes that `write_turn` left, is lent again
+        -- this function itself, with the reader moved on: the buffer, with the bytes that `write_line` left, is lent again
         rewrite ! 0 (λ (k : ℕ). ‵ (at-length k κ′ γ (ls .0))) (sym same) refl $
         lft-new ! tt (λ ν′. move ! (1 ∷ 2 ∷ []) $
         use2 W (later (some (λ (ε : GName). ‵ (at-length (length (ls .0)) (ν′ ∷ []) ε (ls .0))
@@ -258,7 +258,7 @@ module _ {M : Type 1} (𝓤 : URA M) (H : Heap 𝓤) (A : Atoms 𝓤) (W : Given
         move ! (3 ∷ 2 ∷ []) $ join ! $ move ! (0 ∷ 4 ∷ 1 ∷ []) $
         use3 W (raw (From 𝓤 H A mem run .pre (to (ν′ ∷ []) fullShare r ε (ls .0) m)))
         (asks 𝓤 H A mem run κ (ν′ ∷ []) q fullShare r (out ε (ls .0)) s m W (is′ .1)
-        (again-1985 d r (pre .0) moved, room-after d r (pre .0) moved beyond (pre .1) line)) $
+        (again-1985 d r (pre .0) moved, room-after d r (pre .0) moved beyond (pre .1) wrote)) $
         calls-from ! fm (raw (From 𝓤 H A mem run .pre (to (ν′ ∷ []) fullShare r ε (ls .0) m))) (mach r ∷ s ∷ vint w64 m ∷ [])
         (From 𝓤 H A mem run .post (to (ν′ ∷ []) fullShare r ε (ls .0) m))
         (below (to (ν′ ∷ []) fullShare r ε (ls .0) m) (falls d r (pre .0) moved beyond))
@@ -291,7 +291,7 @@ module _ {M : Type 1} (𝓤 : URA M) (H : Heap 𝓤) (A : Atoms 𝓤) (W : Given
         move ! (8 ∷ 9 ∷ []) $ free1 ! $ free0 ! $
         -- [what the buffer owns; its token; true; the reader's token; the result; …; …; what the reader owns]
         keep ! (3 ∷ 2 ∷ 4 ∷ 1 ∷ 7 ∷ 0 ∷ []) $ join ! $ move ! (1 ∷ 0 ∷ []) $
-        by ! (exits n-fits k w′ (es .1 .0) (written-on d r (pre .0) moved beyond line after) (same′ ∙ same)))))))))))
+        by ! (exits n-fits k w′ (es .1 .0) (written-on d r (pre .0) moved beyond wrote after) (same′ ∙ same)))))))))))
         (λ here. skips ! $ exec ! C Λ En rest (atRet En Post) $
         assigns ! (of-opd ! (load ! (from ! (stop !)) (look ! 21 refl))) (from ! (stop !))
         (init ! 35 refl (tt, record { fits = is′ .1 })) $
@@ -305,13 +305,13 @@ module _ {M : Type 1} (𝓤 : URA M) (H : Heap 𝓤) (A : Atoms 𝓤) (W : Given
         move ! (11 ∷ 12 ∷ []) $ free1 ! $ move ! (9 ∷ 10 ∷ []) $ free1 ! $ move ! (7 ∷ 8 ∷ []) $ free1 ! $
         move ! (5 ∷ 6 ∷ []) $ free1 ! $ free0 ! $ keep ! (2 ∷ 1 ∷ 3 ∷ 0 ∷ []) $
         owned ! usize (Is usize) (uint-makes 𝓤 H A W w64) m (vint w64 m ∷ []) (refl, is′ .1) $
-        by ! (exits n-fits m (vint w64 m) (ls .0) (all-written d r (pre .0) moved (nltb→le (d .place) (r .place) here) line) same))
+        by ! (exits n-fits m (vint w64 m) (ls .0) (all-written d r (pre .0) moved (nltb→le (d .place) (r .place) here) wrote) same))
         ))))))))))))
         ))))))))))))))))
 
 -- the contract at one choice of what it binds, where that at less of a reel is known
 module _ {M : Type 1} (𝓤 : URA M) (H : Heap 𝓤) (A : Atoms 𝓤) (W : Given 𝓤 H A) (mem : Memory → SProp 𝓤) (run : Routine → Fun 𝓤)
-    (𝓣 : Tables 𝓤 H) (moves : Triple 𝓤 (𝓣 .C #mover) (Move 𝓤 H A mem run)) (writes : Triple 𝓤 (𝓣 .C #liner) (Turn 𝓤 H A mem run))
+    (𝓣 : Tables 𝓤 H) (moves : Triple 𝓤 (𝓣 .C #mover) (Move 𝓤 H A mem run)) (writes : Triple 𝓤 (𝓣 .C #liner) (Line 𝓤 H A mem run))
     (y : From 𝓤 H A mem run .Ghost) where
   abbrev d : Reader
   d = y .0 .3 .0
@@ -364,6 +364,6 @@ unfolding code.write-from-routine tablesOf
     met-at 𝓤 H A W (𝓜 .mem) (𝓡 .run) 𝓣
     (cited 𝓤 H (tripleOf 𝓤 H A mover.signature (mover.spec 𝓤 H A (𝓜 .mem) (𝓡 .run))) 𝓜 𝓡 code.env #mover
     mover-def.routine code.calls-reel·Reader·next (mover-thm.met 𝓤 H 𝓜 𝓖 𝓡))
-    (cited 𝓤 H (Turn 𝓤 H A (𝓜 .mem) (𝓡 .run)) 𝓜 𝓡 code.env #liner
-    liner-def.routine code.calls-listing·write-turn (liner-thm.met 𝓤 H 𝓜 𝓖 𝓡))
+    (cited 𝓤 H (Line 𝓤 H A (𝓜 .mem) (𝓡 .run)) 𝓜 𝓡 code.env #liner
+    liner-def.routine code.calls-listing·write-line (liner-thm.met 𝓤 H 𝓜 𝓖 𝓡))
     y (λ z lt. smaller (left (z .0 .3 .0)) (subst (λ (u : ℕ). left (z .0 .3 .0) < u) e lt) z refl)))

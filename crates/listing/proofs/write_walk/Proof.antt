@@ -55,7 +55,7 @@ use Rattle.reel.proofs.Reader.new.Met as maker-thm
 use Rattle.numbers.specs.Writing.{Room, Written}
 use Rattle.numbers.proofs.Writing.{room-as, written-as}
 use Rattle.listing.specs.Listing.{walkText}
-use Rattle.listing.proofs.Turns.{text, from-start}
+use Rattle.listing.proofs.TextFrom.{text, from-start}
 use Rattle.listing.proofs.Lent.{opened}
 use Rattle.listing.proofs.Called.{From, bound, asks}
 use Rattle.listing.proofs.write_from as callee

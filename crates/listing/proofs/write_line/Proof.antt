@@ -14,27 +14,27 @@ use Rattle.reel.specs.Walk.{isRecord}
 use Rattle.reel.specs.Shown.{shownStep}
 use Rattle.reel.proofs.Place.{moved, part, not-back, unmoved, has-moved}
 use Rattle.numbers.proofs.Writing.{room-as, written-as, nothing}
-use Rattle.listing.specs.Listing.{recordText, lastText, turnText}
-use Rattle.listing.proofs.Turns.{turn-record, turn-none}
-use Rattle.listing.proofs.write_turn.Statement.{statement}
-use Rattle.listing.proofs.write_turn.Tie as tie
+use Rattle.listing.specs.Listing.{recordText, lastText, lineAt}
+use Rattle.listing.proofs.TextFrom.{line-record, line-none}
+use Rattle.listing.proofs.write_line.Statement.{statement}
+use Rattle.listing.proofs.write_line.Tie as tie
 
 -- a record between the place and the next
 module _ (reel : List ℕ) (place end : ℕ) (e : end ≡ nextPlace 1985 reel place) (past : place < end) where
   stands : isRecord (stepAt 1985 reel place) ≡ true
   stands = has-moved 1985 reel place (λ z. let q : ⊥ = omega (arith, e, z, past) in q)
 
-  line : recordText (take (end - place) (drop place reel)) ≡ turnText reel place
+  line : recordText (take (end - place) (drop place reel)) ≡ lineAt reel place
   line =
       ap recordText (ap (λ (k : ℕ). take (k - place) (drop place reel)) e ∙ sym (part 1985 reel place))
-      ∙ sym (turn-record reel place stands)
+      ∙ sym (line-record reel place stands)
 
 -- none at the place: what is written is by the case r of the step
 module _ (reel : List ℕ) (place end : ℕ) (e : end ≡ nextPlace 1985 reel place) (here : end ≤ place) where
-  last : (s r : Step) → shownStep s ≡ stepAt 1985 reel place → s ≡ r → lastText (shownStep r) ≡ turnText reel place
+  last : (s r : Step) → shownStep s ≡ stepAt 1985 reel place → s ≡ r → lastText (shownStep r) ≡ lineAt reel place
   last s r shown is =
       ap lastText (ap shownStep (sym is) ∙ shown)
-      ∙ sym (turn-none reel place (unmoved 1985 reel place (omega (arith, e, here, not-back 1985 reel place))))
+      ∙ sym (line-none reel place (unmoved 1985 reel place (omega (arith, e, here, not-back 1985 reel place))))
 
 -- behind the test: a record stands
 module _ (c : tie.Then1) where
@@ -42,7 +42,7 @@ module _ (c : tie.Then1) where
   args = c .before .before .before
 
   written-line : recordText (take (args .args .end - args .args .place) (drop (args .args .place) (now (args .args .reel))))
-      ≡ turnText (now (args .args .reel)) (args .args .place)
+      ≡ lineAt (now (args .args .reel)) (args .args .place)
   written-line = line (now (args .args .reel)) (args .args .place) (args .args .end) (args .pre .0) (c .if1 .taken)
 
 part-write-record-end : tie.Need-part-write-record-end
@@ -69,7 +69,7 @@ module _ (c : tie.After-step-by-reader) where
   entry = c .before .before .before .before
 
   last-line : (r : Step) → c .step-by-reader .result ≡ r
-      → lastText (shownStep r) ≡ turnText (now (entry .args .reel)) (entry .args .place)
+      → lastText (shownStep r) ≡ lineAt (now (entry .args .reel)) (entry .args .place)
   last-line r is =
       last (now (entry .args .reel)) (entry .args .place) (entry .args .end) (entry .pre .0) (c .before .if1 .left) _ r
       (c .step-by-reader .ensures) is
@@ -96,8 +96,8 @@ returns-4 c =
     let n = w .before .before .before in
     written-as (last-line (n .before .before) _ (n .n .given .1)) (w .write-refusal .ensures)
 
-pub write-turn-spec : {M : Type 1} → statement M
-write-turn-spec =
+pub write-line-spec : {M : Type 1} → statement M
+write-line-spec =
     tie.close
     (tie.spec (λ c. search needs) (λ c. search needs) part-write-record-end write-record-requires (λ c. search needs) returns
     (λ c κs. search needs) (λ c. search needs) (λ c. search needs) (λ c. search needs) write-refusal-requires returns-2 returns-3
