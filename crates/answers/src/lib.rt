@@ -1,5 +1,7 @@
 // What a call answers: a value, or the number of the first refusal that applies. FORMAT, "Refusal numbers". Every crate above
 // uses this.
+#![tactic(auto)]
+
 ghost use Rattle.std.specs.Prelude.{◌≡◌, cond};
 ghost use Rattle.answers.specs.Refusal.{◌then◌};
 

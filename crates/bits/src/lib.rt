@@ -1,5 +1,7 @@
 // Bit fields of a run of bytes, read and written, and binary coded decimal. FORMAT, "The record".
 // Bits past the last byte read as 0 and are not written, so no caller has to know the length first.
+#![tactic(auto)]
+
 ghost use Rattle.std.specs.Prelude.{◌≡◌, ◌+◌, ◌-◌, ◌*◌, ◌/◌, ◌%◌, ◌^◌, ◌≤◌, ◌<◌, min, ltb, get_or, set};
 ghost use Rattle.bits.specs.Bits.{get_bits, set_bits, widest};
 ghost use Rattle.bits.specs.Decimal.{decimal_value, digits, coded, most_digits};

@@ -1,5 +1,7 @@
 // The check of a block of 512 bytes, and the places and sizes of a block's parts. FORMAT, "Blocks". A byte past the end counts as
 // 0, so that every function takes any bytes.
+#![tactic(auto)]
+
 ghost use Rattle.std.specs.Prelude.{◌≡◌, ◌+◌, ◌*◌, ◌≤◌, ◌<◌, get_or};
 ghost use Rattle.block_check.specs.Check.{modulus, covered, check_of, word_at, passes};
 

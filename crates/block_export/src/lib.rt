@@ -1,4 +1,6 @@
 // A record out to blocks of 512 bytes, all of them or one alone. FORMAT, "Blocks". A refusal changes nothing in what is lent.
+#![tactic(auto)]
+
 ghost use Rattle.std.specs.Prelude.{◌≡◌, ◌++◌, ◌*◌, ◌≤◌, ◌<◌, length, get_or, drop};
 ghost use Rattle.lists.specs.Fill.{tab};
 ghost use Rattle.record.specs.Record.{longest_record};

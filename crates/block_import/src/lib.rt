@@ -1,5 +1,7 @@
 // Blocks of 512 bytes in to the record that they carry, and the first of them whose check is bad. FORMAT, "Blocks". A refusal
 // changes nothing in what is lent.
+#![tactic(auto)]
+
 ghost use Rattle.std.specs.Prelude.{◌≡◌, ◌++◌, ◌+◌, ◌*◌, ◌/◌, ◌≤◌, ◌<◌, T, length, drop};
 ghost use Rattle.record.specs.Record.{record_refusal};
 ghost use Rattle.block_check.specs.Check.{block_bytes};

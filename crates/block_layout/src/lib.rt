@@ -1,4 +1,6 @@
 // A record's blocks as a whole: how many there are, and what a call answers that gives bytes into a lent buffer. FORMAT, "Blocks".
+#![tactic(auto)]
+
 ghost use Rattle.std.specs.Prelude.{◌≡◌};
 ghost use Rattle.block_layout.specs.Layout.{block_count};
 

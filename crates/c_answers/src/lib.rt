@@ -1,6 +1,8 @@
 // Answers as C and Rust take them: a struct by value with the refusal's number, and beside a refusal 0 in every other member; of
 // a header, the number alone, and its values in the array lent. Crate `odr` exports the calls; what they hand on is made here,
 // one function for each answer. FORMAT, "Refusal numbers".
+#![tactic(auto)]
+
 ghost use Rattle.std.specs.Prelude.{◌≡◌, get_or};
 ghost use Rattle.lists.specs.Fill.{tab};
 ghost use Rattle.record.specs.Record.{header_answer};

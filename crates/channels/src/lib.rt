@@ -1,5 +1,7 @@
 // The samples of a stretch, out to channels and back in. FORMAT, "Samples". The stretch is what the caller hands on; nothing here
 // knows of records.
+#![tactic(auto)]
+
 ghost use Rattle.std.specs.Prelude.{◌≡◌, ◌*◌, ◌≤◌, ◌<◌, pos, length, get_or, set};
 ghost use Rattle.lists.specs.Fill.{over};
 ghost use Rattle.channels.specs.Sample.{signed_of, byte_of, sample_of, channel_room, interleaved, multiplexed};

@@ -1,5 +1,7 @@
 // Refusal 25 and refusals 1 to 11 of an edition as one chain, over what is judged of a record or of a header to be written.
 // FORMAT, "Refusal numbers".
+#![tactic(auto)]
+
 ghost use Rattle.std.specs.Prelude.{◌≡◌, not, ◌*◌, eqb};
 ghost use Rattle.answers.specs.Refusal.{first};
 ghost use Rattle.checks.specs.Checks.{last_day, wrong_date, checks};

@@ -1,5 +1,7 @@
 // What an edition says beside its rows, by its number. FORMAT, "Editions", "Rates". Every function takes any number; 25 is for
 // those that no edition has, and what the others say of such a number does not matter.
+#![tactic(auto)]
+
 ghost use Rattle.std.specs.Prelude.{◌≡◌, ◌≤◌};
 ghost use Rattle.header.specs.Edition.{is_unknown, header_bytes, other_resolution, no_segments};
 ghost use Rattle.editions.specs.Rates.{sample_rate_of};

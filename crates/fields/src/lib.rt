@@ -1,5 +1,7 @@
 // One field of a header, read and written as its row of the format's table says. FORMAT, "The record".
 // A field that no format has, such as one of word 0 or of 60 bits, reads as 0 and is not written.
+#![tactic(auto)]
+
 ghost use Rattle.std.specs.Prelude.{◌≡◌, ◌&&◌};
 ghost use Rattle.fields.specs.Field.{start, encoded, value_of, with_value, digits_good, Readable, readable, read_value, write_value, good_digits, bits_fit, fits_binary, fits_decimal};
 

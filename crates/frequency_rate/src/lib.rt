@@ -1,5 +1,7 @@
 // The frequency rate of a record. FORMAT, "Frequency rate". Every public function takes any bytes; a refusal is a number, and 0
 // is none.
+#![tactic(auto)]
+
 ghost use Rattle.std.specs.Prelude.{◌≡◌, ◌^◌, ◌≤◌, ◌<◌};
 ghost use Rattle.frequency_rate.specs.FrequencyRate.{digits_below, frequency_rate_units, frequency_rate_of, frequency_rate_answer, shown_frequency_rate};
 

@@ -1,5 +1,7 @@
 // The header: the table of its rows, and its values read. FORMAT, "The record", "Editions". A header is its list of values in the
 // table's order: the rows that every edition has, then those of its own.
+#![tactic(auto)]
+
 ghost use Rattle.std.specs.Prelude.{◌≡◌};
 ghost use Rattle.fields.specs.Table.{read_all, all_digits_good};
 ghost use Rattle.header_parts.specs.Parts.{Reads};

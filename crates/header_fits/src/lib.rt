@@ -1,5 +1,7 @@
 // Whether the values of a header fit the fields of an edition's table: refusals 10 and 22 of a writer. FORMAT, "The record",
 // "Refusal numbers".
+#![tactic(auto)]
+
 ghost use Rattle.std.specs.Prelude.{◌≡◌};
 ghost use Rattle.fields.specs.Field.{binary_fits, decimal_fits};
 ghost use Rattle.fields.specs.Table.{all_fit};

@@ -1,4 +1,6 @@
 // Eight values of a header put into its list of values; one past the end of the list is dropped. FORMAT, "The record".
+#![tactic(auto)]
+
 ghost use Rattle.std.specs.Prelude.{◌≡◌, ◌+◌, set};
 ghost use Rattle.header_parts.specs.Parts.{placed};
 

@@ -1,5 +1,7 @@
 // The values of a header, written by the table of an edition. FORMAT, "The record". As in reading, every row is named: of
 // a literal row the compiler makes a few instructions, and of one from a table a call.
+#![tactic(auto)]
+
 ghost use Rattle.std.specs.Prelude.{◌≡◌};
 ghost use Rattle.fields.specs.Table.{write_all};
 ghost use Rattle.header_parts.specs.Parts.{cells};

@@ -1,5 +1,7 @@
 // Cells of the index: a row or a second read and replaced, a row merged into a second, a second worked out from the rows.
 // FORMAT, "The index of seconds". Every public function here takes any cells.
+#![tactic(auto)]
+
 ghost use Rattle.std.specs.Prelude.{◌≡◌, cond, not, ◌&&◌, ◌+◌, ◌*◌, ◌/◌, ◌≤◌, ◌<◌, min, eqb, length};
 ghost use Rattle.index_model.specs.Cells.{width, cell_limit, cell, block_at, is_greatest, merge, merged, row_within, second_from};
 ghost use Rattle.index_cells.specs.Blocks.{block_or_none, block_put};

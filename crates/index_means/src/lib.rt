@@ -1,6 +1,8 @@
 // The mean and the mean square of each channel of a second: a question to the index, as `index_query::query` is. Each is one
 // division of two whole numbers that a 64-bit float holds exactly; both are 0 for no samples. FORMAT, "The index of seconds". It
 // takes any value of an opening and any cells, and changes none.
+#![tactic(auto)]
+
 ghost use Rattle.std.specs.Prelude.{◌≡◌, ◌≤◌};
 ghost use Rattle.answers.specs.Answer.{refused};
 ghost use Rattle.index_model.specs.Buffers.{lent};

@@ -1,5 +1,7 @@
 // Opening the index of seconds, and what its value decides without a look at any cell: 13 to 17. FORMAT, "The index of seconds",
 // "Refusal numbers". Every public function here takes any values; 0 is no refusal.
+#![tactic(auto)]
+
 ghost use Rattle.std.specs.Prelude.{◌≡◌, [], ◌∷◌, ◌+◌, ◌*◌, ◌≤◌, ltb, length};
 ghost use Rattle.lists.specs.Fill.{over};
 ghost use Rattle.answers.specs.Refusal.{◌when◌, first, ◌then◌};

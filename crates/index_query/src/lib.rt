@@ -1,5 +1,7 @@
 // Questions to the index about a second, and the test of its cells. FORMAT, "The index of seconds", "Refusal numbers". Every
 // public function here takes any value of an opening and any cells, and changes none; 0 is no refusal.
+#![tactic(auto)]
+
 ghost use Rattle.std.specs.Prelude.{◌≡◌, ◌||◌, ◌*◌, ◌≤◌, ◌<◌, eqb, pos, nat_abs, ◌-ℤ◌, get_or};
 ghost use Rattle.lists.specs.Fill.{tab};
 ghost use Rattle.floats.specs.Whole.{exact_limit};

@@ -1,5 +1,7 @@
 // The row of a record: the cells that the index keeps of it. FORMAT, "The index of seconds". Any bytes have one; the index asks
 // for that of accepted records.
+#![tactic(auto)]
+
 ghost use Rattle.std.specs.Prelude.{◌≡◌, ◌∷◌, ◌++◌, ◌*◌, ◌/◌, ◌≤◌, ◌<◌, eqb, length};
 ghost use Rattle.sample_rates.specs.Rates.{most_samples};
 ghost use Rattle.totals.specs.Running.{total_at};

@@ -1,5 +1,7 @@
 // Records put into the index of seconds, and taken out. FORMAT, "The index of seconds", "Refusal numbers". Any bytes, any value
 // of an opening and any cells; a refusal changes no cell, and 0 is none.
+#![tactic(auto)]
+
 ghost use Rattle.std.specs.Prelude.{◌≡◌, not, ◌&&◌, ◌+◌, ◌-◌, ◌*◌, ◌≤◌, ◌<◌, eqb, length};
 ghost use Rattle.index_model.specs.Records.{in_edition, number_of, second_in};
 ghost use Rattle.index_model.specs.Cells.{width, cell, with_block, flag, row_within};

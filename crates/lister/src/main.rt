@@ -1,5 +1,7 @@
 // The lister (FORMAT, "The listing"): it reads a reel on standard input and writes its listing to standard output. A read that
 // fails is not taken for the end of the tape: then a message goes to standard error, and no listing is written.
+#![tactic(auto)]
+
 ghost use Rattle.lister.specs.Input.{Within};
 
 use libc::{STDERR_FILENO, STDIN_FILENO, STDOUT_FILENO};

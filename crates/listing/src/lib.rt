@@ -1,6 +1,8 @@
 // The listing of a reel as text in a lent buffer, and the line of one record. FORMAT, "The listing", "Refusal numbers". Reels and
 // records are of 1985. The walk is by one reel reader, kept from the first record to the last, and each record is judged once. The
 // public functions take any bytes and any buffer; a refusal is a number.
+#![tactic(auto)]
+
 ghost use Rattle.std.specs.Prelude.{◌≡◌, length};
 ghost use Rattle.text.specs.Placed.{shown_text};
 ghost use Rattle.text.specs.Text.{refused_line};

@@ -1,5 +1,7 @@
 // Lists: definitions and laws that no single subject owns, the lesser of two lengths, and bytes copied. Every crate above may use
 // them.
+#![tactic(auto)]
+
 ghost use Rattle.std.specs.Prelude.{◌≡◌, min, length, get_or};
 ghost use Rattle.lists.specs.Fill.{over};
 

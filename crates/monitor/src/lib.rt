@@ -1,6 +1,8 @@
 // The words after a record's samples: which of two records has new data of a segment, and what a segment question is refused
 // for. A segment is its row here, in the order of the status bits; numbers, starts and lengths are those of crate `segments`.
 // FORMAT, "Monitor segments", "Refusal numbers".
+#![tactic(auto)]
+
 ghost use Rattle.std.specs.Prelude.{◌≡◌, ◌+◌, ◌*◌, ◌≤◌};
 ghost use Rattle.monitor.specs.Monitor.{place_in, segment_count, last_sample_word_of, most_last_word, monitor_byte, monitor_bytes, is_new, row_refusal, chosen_record, row_answer};
 

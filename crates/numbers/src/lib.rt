@@ -1,5 +1,7 @@
 // Numbers as text (FORMAT, "The listing"), each written at a place of a lent buffer as far as the buffer goes; a writer returns
 // the place behind what it wrote.
+#![tactic(auto)]
+
 ghost use Rattle.std.specs.Prelude.{◌≡◌, [], ◌∷◌, pos, nat_abs};
 ghost use Rattle.std.specs.Int.Signed.{lt_z};
 ghost use Rattle.numbers.specs.Number.{digit, decimal_text, fixed, minus, signed_decimal, signed_fixed};

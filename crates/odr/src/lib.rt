@@ -1,6 +1,8 @@
 // The library for C and Rust, as c/odr.h declares it. Each call takes any input and answers as the call that it hands on to.
 // Numbers come back in structs by value, and what opening returned goes in by value, so no buffer of numbers can be too short;
 // beside a refusal every other member is 0 (crate `c_answers`). An edition is named by its number, just before what it is about.
+#![tactic(auto)]
+
 ghost use Rattle.std.specs.Prelude.{◌≡◌, length};
 ghost use Rattle.answers.specs.Answer.{told};
 ghost use Rattle.editions.specs.Answer.{rate_line_out};

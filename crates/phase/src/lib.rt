@@ -1,4 +1,6 @@
 // A phase in cycles from its 48-bit count, which has 8 bits of fraction or 20. FORMAT, "Times and phases".
+#![tactic(auto)]
+
 ghost use Rattle.std.specs.Prelude.{◌%◌, ◌^◌};
 ghost use Rattle.phase.specs.Phase.{InCycles};
 

@@ -1,5 +1,7 @@
 // Records of an edition: which are accepted, their header read and written, and their samples' stretch. FORMAT, "The record",
 // "Refusal numbers". Every public function takes any bytes; a refusal is a number, and 0 is none.
+#![tactic(auto)]
+
 ghost use Rattle.std.specs.Prelude.{◌≡◌, ◌≤◌, length};
 ghost use Rattle.fields.specs.Field.{value_of, decimal_fits};
 ghost use Rattle.fields.specs.Table.{all_digits_good, all_fit, value_in};

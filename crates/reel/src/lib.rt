@@ -1,5 +1,7 @@
 // A reel, records of an edition back to back, and what stands at a place of it. FORMAT, "The reel". Every public function takes
 // any edition, any bytes and any place.
+#![tactic(auto)]
+
 ghost use Rattle.std.specs.Prelude.{◌≡◌, ◌<◌, ◌^◌};
 ghost use Rattle.reel.specs.Reel.{words_in, rest_refusal, step_at, record_at, next_place};
 ghost use Rattle.reel.specs.Shown.{shown_step};

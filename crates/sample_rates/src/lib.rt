@@ -1,4 +1,6 @@
 // The sample rates of each edition, and what follows from a rate. FORMAT, "Rates".
+#![tactic(auto)]
+
 ghost use Rattle.std.specs.Prelude.{◌≡◌, ◌≤◌, drop};
 ghost use Rattle.sample_rates.specs.Rates.{second_us, line, no_rate, line1992, rates1985, rates1992, line_in, interval_us};
 

@@ -1,5 +1,7 @@
 // The samples of a record, out to four channel buffers and back in, and their totals. FORMAT, "Samples", "Refusal numbers". Every
 // function here takes any bytes; a refusal is a number, and 0 is none.
+#![tactic(auto)]
+
 ghost use Rattle.std.specs.Prelude.{◌≡◌, [], ◌∷◌, ◌≤◌, length};
 ghost use Rattle.answers.specs.Answer.{refused};
 ghost use Rattle.answers.specs.Refusal.{◌when◌, first, ◌then◌};

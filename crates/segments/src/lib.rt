@@ -1,5 +1,7 @@
 // The segment question: a segment by its number, and its bytes in one of two records. The seven segments are one list, which
 // the question reads. FORMAT, "Monitor segments", "Refusal numbers".
+#![tactic(auto)]
+
 ghost use Rattle.std.specs.Prelude.{◌≡◌};
 ghost use Rattle.segments.specs.Question.{segment_answer};
 

@@ -1,6 +1,8 @@
 // Signed numbers of a few bits, two's complement, read as numbers of 64 bits; written, such a number gives its lowest bits, as
 // any other does. FORMAT, "The record". A width above the widest counts as the widest, so no function here asks anything of its
 // caller.
+#![tactic(auto)]
+
 ghost use Rattle.std.specs.Prelude.{◌≡◌, ◌%◌, ◌^◌, ◌≤◌, ◌<◌, min};
 ghost use Rattle.bits.specs.Bits.{widest};
 ghost use Rattle.signed.specs.Signed.{signed_value, signed_fits};

@@ -1,5 +1,7 @@
 // The lines of the lister (FORMAT, "The listing"), each put at a place of a lent buffer. A line that does not fit is refused (21)
 // and leaves the buffer as it was.
+#![tactic(auto)]
+
 ghost use Rattle.std.specs.Prelude.{◌≡◌, ◌+◌, leb};
 ghost use Rattle.numbers.specs.Writing.{Written};
 ghost use Rattle.text.specs.Text.{column, signed_column, frequency_column, rate_column, header_line, record_line, refused_line};

@@ -1,5 +1,7 @@
 // When a sample was taken, and the phases of a record. FORMAT, "Times and phases". Every public function takes any bytes; a
 // refusal is a number.
+#![tactic(auto)]
+
 ghost use Rattle.std.specs.Prelude.{◌≡◌, ◌%◌, ◌^◌, ◌<◌};
 ghost use Rattle.header.specs.Edition.{fraction_bits};
 ghost use Rattle.sample_rates.specs.Rates.{most_samples};

@@ -1,5 +1,7 @@
 // Totals of the four channels over a stretch of samples: for each its sum, sum of squares, least, greatest and clipped samples.
 // FORMAT, "Samples", "The index of seconds".
+#![tactic(auto)]
+
 ghost use Rattle.std.specs.Prelude.{◌≡◌, ◌+◌, ◌*◌, ◌≤◌, ◌<◌, nat_abs, length};
 ghost use Rattle.channels.specs.Sample.{sample_of};
 ghost use Rattle.totals.specs.Total.{lesser, greater, clipped_one, totals_of, count_limit, set_count};

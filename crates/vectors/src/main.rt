@@ -1,5 +1,7 @@
 // Cases worked by hand that are run, not proved (FORMAT, "Cases worked by hand"): each line says what was asked and the refusal
 // number, 0 for none. The others are proved in crate `worked_cases`.
+#![tactic(auto)]
+
 use header::{EDITION_1985, EDITION_1992};
 use index_model::{Opening, WIDTH};
 use index_open::OpenAnswer;
