@@ -1,0 +1,41 @@
+-- The loop that stores the bytes of a number, the last first: the invariant is `Stored`, and the part of the number that is left.
+use mathlib.Core.Path.{◌≡◌, ◌∙◌, ap, sym, subst}
+use mathlib.Core.List.{List}
+use Prim.Native.Nat.{ℕ, ◌≤◌, ◌-◌, ◌+◌, ◌*◌, ◌/◌, ◌%◌, ◌^◌}
+use native.Mathlib.Omega.{arith}
+use borrow.Author.Rules.{rules}
+use Rattle.bits.specs.Steps.{Stored}
+use Rattle.bits.proofs.Writing.{stored-none, stored_more, rest-whole, rest-less}
+use Rattle.bits.proofs.store.Goals as goal
+
+pub loop-k-init : goal.loop-k-init
+loop-k-init c = (search rules, rest-whole _ _ _ (search rules), stored-none _ _ _ _ _ (search rules))
+
+pub loop-k-preserved : goal.loop-k-preserved
+loop-k-preserved c =
+    let s = c in
+    let l = s in
+    let a = l.args in
+    let x = a.x in
+    let n = a.n in
+    let k = l.loop-k.k in
+    let back : k ≡ k - 1 + 1 = omega arith in
+    let place : n - k ≡ n - 1 - (k - 1) = omega arith in
+    let byte =
+    s.narrow.ensures ∙ ap (λ (z : ℕ). z % 256) l.loop-k.invariant.1 ∙ ap (λ (z : ℕ). x / 2 ^ (8 * z) % 256) place in (
+      search rules,
+      ap (λ (z : ℕ). z / 256) l.loop-k.invariant.1 ∙ rest-less x n k (search rules) (search rules),
+      subst (λ (z : List ℕ). Stored a.from n x (k - 1) a.bytes.now z) (sym s.set_byte.ensures)
+          (stored_more a.from n x (k - 1) s.narrow.result a.bytes.now l.loop-k.bytes (omega arith) byte
+          (subst (λ (z : ℕ). Stored a.from n x z a.bytes.now l.loop-k.bytes) back l.loop-k.invariant.2)),
+    )
+
+pub shape_of-bytes : goal.shape_of-bytes
+shape_of-bytes c = c.loop-k.invariant.2.same
+
+pub returns : goal.returns
+returns c =
+    let l = c in
+    let a = l.args in
+    let e : l.loop-k.k ≡ 0 = omega arith in
+    subst (λ (z : ℕ). Stored a.from a.n a.x z a.bytes.now l.loop-k.bytes) e l.loop-k.invariant.2

@@ -1,0 +1,38 @@
+-- The loop over the bytes of a window: the invariant says the number made so far.
+use mathlib.Core.Path.{◌≡◌, sym, ◌∙◌, ap}
+use Prim.Native.Nat.{ℕ, ◌≤◌, ◌+◌, ◌*◌, ◌-◌}
+use lib.ListN.{get_or}
+use native.Mathlib.Omega.{arith}
+use borrow.Author.Rules.{rules}
+use Rattle.bits.specs.Bits.{get_bits}
+use Rattle.bits.proofs.Reading.{more, within, none}
+use Rattle.bits.proofs.window.Goals as goal
+
+pub loop-k-init : goal.loop-k-init
+loop-k-init c = (search rules, sym (none (8 * c.args.from) c.args.bytes.now))
+
+pub overflow_mul-x : goal.overflow_mul-x
+overflow_mul-x c =
+    let l = c in
+    let a = l.args in
+    omega (arith, within 56 (8 * a.from) (8 * l.loop-k.k) a.bytes.now (omega arith))
+
+pub overflow_add-x : goal.overflow_add-x
+overflow_add-x c =
+    let l = c in
+    let a = l.args in
+    omega (arith, within 56 (8 * a.from) (8 * l.loop-k.k) a.bytes.now (omega arith))
+
+pub loop-k-preserved : goal.loop-k-preserved
+loop-k-preserved c =
+    let l = c in
+    let a = l.args in
+    let e : c.byte_at.result ≡ get_or a.bytes.now (a.from + l.loop-k.k) 0 = c.byte_at.ensures.0 in
+    (search rules, omega (arith, e, more a.from l.loop-k.k a.bytes.now (omega (arith, e))))
+
+pub returns : goal.returns
+returns c =
+    let l = c in
+    let a = l.args in
+    let e : l.loop-k.k ≡ a.count = omega arith in
+    l.loop-k.invariant.1 ∙ ap (λ (z : ℕ). get_bits (8 * a.from) (8 * z) a.bytes.now) e

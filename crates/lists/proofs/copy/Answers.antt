@@ -1,0 +1,24 @@
+use mathlib.Core.Path.{◌≡◌, refl}
+use Prim.Native.Nat.{◌≤◌, ◌-◌, min}
+use native.Mathlib.Omega.{arith}
+use lib.ListN.{length, get_or}
+use borrow.Author.Rules.{rules}
+use Rattle.lists.proofs.Fill.{Filled, filled_none, filled_more, filled_at}
+use Rattle.lists.proofs.copy.Goals as goal
+
+pub loop-k-init : goal.loop-k-init
+loop-k-init c = (c.lesser-n.ensures, omega arith, filled_none _ _ 0)
+
+pub bounds-to-k : goal.bounds-to-k
+bounds-to-k c = let l = c in omega (arith, l.loop-k.invariant.2.same)
+
+pub loop-k-preserved : goal.loop-k-preserved
+loop-k-preserved c =
+    let l = c in (
+      l.loop-k.invariant.0,
+      omega arith,
+      filled_more (get_or l.args.from.now l.loop-k.k 0) (omega arith) refl l.loop-k.invariant.2,
+    )
+
+pub returns : goal.returns
+returns c = let l = c.loop-k in filled_at {d = 0} (omega arith) (omega arith) l.invariant.2
