@@ -15,7 +15,7 @@ use block_layout::LengthAnswer;
 
 // A block whose check is bad; 0 beside none.
 #[repr(C)]
-#[derive(Drop)]
+#[derive(Clone, Copy)]
 pub struct BadBlock {
     pub found: bool,
     pub index: usize,

@@ -7,7 +7,7 @@ ghost use Rattle.block_layout.specs.Layout.{block_count};
 use block_check::PAYLOAD_BYTES;
 
 // How many bytes were given, or the refusal.
-#[derive(Drop)]
+#[derive(Clone, Copy)]
 pub enum LengthAnswer {
     Length(usize),
     Refused(u8),

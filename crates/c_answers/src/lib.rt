@@ -25,21 +25,21 @@ pub const FINISHED: u8 = 255;
 pub const LONGEST_SEGMENT: usize = 2 * segments::MOST_WORDS;
 
 #[repr(C)]
-#[derive(Drop)]
+#[derive(Clone, Copy)]
 pub struct FrequencyRateOut {
     pub refusal: u8,
     pub units: i64,
 }
 
 #[repr(C)]
-#[derive(Drop)]
+#[derive(Clone, Copy)]
 pub struct TimeOut {
     pub refusal: u8,
     pub microseconds: i64,
 }
 
 #[repr(C)]
-#[derive(Drop)]
+#[derive(Clone, Copy)]
 pub struct PhasesOut {
     pub refusal: u8,
     pub first: f64,
@@ -48,7 +48,7 @@ pub struct PhasesOut {
 
 // A record from `start` up to `end`; or the end of the reel, 255; or a refusal.
 #[repr(C)]
-#[derive(Drop)]
+#[derive(Clone, Copy)]
 pub struct StepOut {
     pub answer: u8,
     pub start: usize,
@@ -56,28 +56,28 @@ pub struct StepOut {
 }
 
 #[repr(C)]
-#[derive(Drop)]
+#[derive(Clone, Copy)]
 pub struct OpenOut {
     pub refusal: u8,
     pub opening: Opening,
 }
 
 #[repr(C)]
-#[derive(Drop)]
+#[derive(Clone, Copy)]
 pub struct ConsistencyOut {
     pub refusal: u8,
     pub consistent: bool,
 }
 
 #[repr(C)]
-#[derive(Drop)]
+#[derive(Clone, Copy)]
 pub struct TextOut {
     pub refusal: u8,
     pub length: usize,
 }
 
 #[repr(C)]
-#[derive(Drop)]
+#[derive(Clone, Copy)]
 pub struct LengthOut {
     pub refusal: u8,
     pub length: usize,

@@ -13,7 +13,7 @@ pub const LAST_MS: u64 = 86_399_999;
 const SYNC_PATTERN: u64 = 0xA55A;
 
 // What 1 to 11 judge: how many bytes the record has, values of its header, and whether its decimal fields are decimal.
-#[derive(Drop)]
+#[derive(Clone, Copy)]
 pub struct Judged {
     pub bytes: usize,
     pub length_words: u64,

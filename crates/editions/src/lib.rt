@@ -57,7 +57,7 @@ pub fn sample_rate_of(edition: u64, hz: u64) -> SampleRate
 // What follows from a rate, beside the refusal: the samples a channel has in a record, the records of a second, and the
 // microseconds from a sample to the next; beside 25, and beside 5 for a number that is no rate of the edition, they are 0.
 #[repr(C)]
-#[derive(Drop)]
+#[derive(Clone, Copy)]
 pub struct RateLineAnswer {
     pub refusal: u8,
     pub samples: u64,

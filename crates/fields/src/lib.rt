@@ -7,7 +7,7 @@ ghost use Rattle.fields.specs.Field.{start, encoded, value_of, with_value, digit
 
 // A field: its word and first bit, both counted from 1, its width in bits, and whether it holds decimal digits or a signed
 // number.
-#[derive(Drop)]
+#[derive(Clone, Copy)]
 pub struct Field(pub usize, pub usize, pub usize, pub bool, pub bool);
 
 // The field's first bit, counted from 0.

@@ -6,7 +6,7 @@ ghost use Rattle.std.specs.Prelude.{◌≡◌, ◌^◌, ◌≤◌, ◌<◌};
 ghost use Rattle.frequency_rate.specs.FrequencyRate.{digits_below, frequency_rate_units, frequency_rate_of, frequency_rate_answer, shown_frequency_rate};
 
 // The frequency rate in units of 0.00001 Hz/s, or the refusal.
-#[derive(Drop)]
+#[derive(Clone, Copy)]
 pub enum FrequencyRateAnswer {
     Units(i64),
     Refused(u8),

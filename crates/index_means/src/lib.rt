@@ -15,7 +15,7 @@ use index_model::Opening;
 use totals::Total;
 
 #[repr(C)]
-#[derive(Drop)]
+#[derive(Clone, Copy)]
 pub struct Means {
     pub mean: f64,
     pub mean_square: f64,
@@ -23,7 +23,7 @@ pub struct Means {
 
 // The means of channels 1 to 4, beside the refusal; with one, every mean is 0.
 #[repr(C)]
-#[derive(Drop)]
+#[derive(Clone, Copy)]
 pub struct MeansAnswer {
     pub refusal: u8,
     pub channels: [Means; 4],

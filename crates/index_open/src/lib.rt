@@ -22,7 +22,7 @@ const HIGHEST_LIMIT: u64 = 65_535;
 const DAY_SECONDS: u64 = 86_400;
 
 // What every later call takes, or the refusal.
-#[derive(Drop)]
+#[derive(Clone, Copy)]
 pub enum OpenAnswer {
     Opened(Opening),
     Refused(u8),

@@ -27,7 +27,7 @@ use totals::{NO_TOTAL, Total};
 // A second's totals and verdict, beside the refusal. An enum cannot hold an array, so the refusal is a field; with one, every
 // other field is 0.
 #[repr(C)]
-#[derive(Drop)]
+#[derive(Clone, Copy)]
 pub struct SecondAnswer {
     pub refusal: u8,
     pub records: u32,
@@ -38,7 +38,7 @@ pub struct SecondAnswer {
 }
 
 // Whether the cells are those that the rows give, or the refusal.
-#[derive(Drop)]
+#[derive(Clone, Copy)]
 pub enum ConsistencyAnswer {
     Consistent(bool),
     Refused(u8),

@@ -13,7 +13,7 @@ use index_model::{GREATEST_OFFSET, SAMPLE_OFFSET, SECOND_MS, WIDTH};
 use totals::Total;
 
 // The cells of a channel, each with its offset.
-#[derive(Drop)]
+#[derive(Clone, Copy)]
 struct ChannelCells {
     least: u32,
     sum: u32,

@@ -10,7 +10,7 @@ use libc::{STDERR_FILENO, STDIN_FILENO, STDOUT_FILENO};
 const INPUT_BYTES: usize = listing::LONGEST_INPUT + 1;
 
 // How many bytes were read to the start of a buffer, or that a read failed.
-#[derive(Drop)]
+#[derive(Clone, Copy)]
 enum Input {
     Bytes(usize),
     Failed,

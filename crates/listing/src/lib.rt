@@ -24,7 +24,7 @@ pub const LONGEST_INPUT: usize = 65_536;
 pub const LONGEST_LISTING: usize = 4_335;
 
 // The length of the text, or the refusal.
-#[derive(Drop)]
+#[derive(Clone, Copy)]
 pub enum ListAnswer {
     Length(usize),
     Refused(u8),

@@ -44,7 +44,7 @@ use samples::TotalsAnswer;
 
 // The segment's bytes are the first `length` ones; 0 follows.
 #[repr(C)]
-#[derive(Drop)]
+#[derive(Clone, Copy)]
 pub struct SegmentOut {
     pub refusal: u8,
     pub length: usize,

@@ -16,7 +16,7 @@ use header::{EDITION_1992, FIELD_COUNT};
 use sample_rates::SampleRate;
 
 // A header that was read, beside the refusal; with one, every value is 0. An enum cannot hold an array.
-#[derive(Drop)]
+#[derive(Clone, Copy)]
 pub struct HeaderAnswer {
     pub refusal: u8,
     pub values: [u64; FIELD_COUNT],

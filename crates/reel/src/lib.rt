@@ -8,7 +8,7 @@ ghost use Rattle.reel.specs.Shown.{shown_step};
 ghost use Rattle.reel.specs.Reader.{at_start, step_of, record_of, moved_on};
 
 // What stands at a place: a record, nothing more, or the refusal.
-#[derive(Drop)]
+#[derive(Clone, Copy)]
 pub enum Step {
     Record { start: usize, end: usize },
     Finished,
@@ -83,7 +83,7 @@ pub fn record_at<'a>(edition: u64, reel: &'a [u8], place: usize) -> &'a [u8]
 }
 
 // The edition of a reel, the reel, and the place reached in it.
-#[derive(Drop)]
+#[derive(Clone, Copy)]
 pub struct Reader<'a> {
     pub edition: u64,
     pub reel: &'a [u8],

@@ -9,7 +9,7 @@ pub const SECOND_US: u64 = 1_000_000;
 
 // A line of the table: samples a second in each channel, records a second, samples a channel in a record, the last word of
 // samples, and the record's length in words with and without the operator offsets (software OP-B and OP-A).
-#[derive(Drop)]
+#[derive(Clone, Copy)]
 pub struct SampleRate {
     pub hz: u64,
     pub records: u64,

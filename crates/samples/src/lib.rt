@@ -14,7 +14,7 @@ use totals::{NO_TOTAL, Total};
 // The totals of channels 1 to 4 over all samples of a record, beside the refusal; with one, they are 0. An enum cannot hold an
 // array.
 #[repr(C)]
-#[derive(Drop)]
+#[derive(Clone, Copy)]
 pub struct TotalsAnswer {
     pub refusal: u8,
     pub channels: [Total; 4],

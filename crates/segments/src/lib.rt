@@ -8,7 +8,7 @@ ghost use Rattle.segments.specs.Question.{segment_answer};
 use monitor::SEGMENT_COUNT;
 
 // A row of the list: a segment's number, its first word, counted from 1 after the samples, and how many words it has.
-#[derive(Drop)]
+#[derive(Clone, Copy)]
 pub struct Row(pub u64, pub u8, pub u8);
 
 // Figure RSC-11-10-3 of 1985 as a list, in the order of the status bits; behind each row what the figure calls the segment. The

@@ -16,7 +16,7 @@ const FREQUENCY_RATE_PLACES: usize = 5;
 const LONGEST_LINE: usize = 107;
 
 // The columns of a record's line.
-#[derive(Drop)]
+#[derive(Clone, Copy)]
 pub struct Columns {
     pub number: u64,
     pub first_us: i64,
@@ -26,7 +26,7 @@ pub struct Columns {
 }
 
 // The place behind a text that was put into a buffer, or the refusal.
-#[derive(Drop)]
+#[derive(Clone, Copy)]
 pub enum TextAnswer {
     Next(usize),
     Refused(u8),

@@ -19,14 +19,14 @@ const MS_US: u64 = 1000;
 const TAGGED_SAMPLE: u64 = 2;
 
 // The microseconds from 0 h of the record's day, below zero on the day before; or the refusal.
-#[derive(Drop)]
+#[derive(Clone, Copy)]
 pub enum TimeAnswer {
     Microseconds(i64),
     Refused(u8),
 }
 
 // The two phases in cycles, or the refusal.
-#[derive(Drop)]
+#[derive(Clone, Copy)]
 pub enum PhaseAnswer {
     Cycles { first: f64, second: f64 },
     Refused(u8),
