@@ -1,0 +1,22 @@
+use Prim.Native.Nat.{◌^◌}
+use mathlib.Core.Path.{ap, sym, ◌∙◌}
+use mathlib.Core.Bool.{Bool, cond}
+use lib.Dec.{ltb}
+use Rattle.signed.specs.Signed.{signed_fits}
+use Rattle.fields.specs.Field.{bit_width}
+use Rattle.fields.proofs.Steps.{fits_signed}
+use borrow.Author.Rules.{rules}
+use Rattle.fields.proofs.bits_fit.Goals as goal
+
+pub returns-then-signed : goal.returns-then-signed
+returns-then-signed c =
+    let start = c in
+    let a = start.args in
+    c.fits.ensures ∙ fits_signed a.f start.requires a.value c.if-signed.true
+
+pub returns : goal.returns
+returns c =
+    let e = c in
+    let a = e.args in
+    c.fits_bits.ensures
+    ∙ sym (ap (λ (t : Bool). cond t (signed_fits (bit_width a.f) a.value) (ltb a.value (2 ^ bit_width a.f))) e.if-signed.false)

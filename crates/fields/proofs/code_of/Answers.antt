@@ -1,0 +1,16 @@
+use mathlib.Core.Path.{◌∙◌}
+use Rattle.fields.proofs.Steps.{code-decimal, code-binary}
+use borrow.Author.Rules.{rules}
+use Rattle.fields.proofs.code_of.Goals as goal
+
+pub returns-then-decimal : goal.returns-then-decimal
+returns-then-decimal c =
+    let start = c in
+    let a = start.args in
+    c.decimal_code.ensures ∙ code-decimal a.f start.requires a.value c.if-decimal.true
+
+pub returns : goal.returns
+returns c =
+    let start = c in
+    let a = start.args in
+    code-binary a.f start.requires a.value c.if-decimal.false

@@ -1,0 +1,9 @@
+use mathlib.Core.Bool.{not, ◌||◌}
+use Rattle.fields.specs.Field.{is_decimal}
+use borrow.Author.Rules.{rules}
+use Rattle.fields.proofs.decimal_fits.Goals as goal
+
+pub returns : goal.returns
+returns c =
+    let fit = c in
+    λ i. not (c.is_readable-no_field.ensures i) || (not (is_decimal fit.args.f) || fit.fits_digits-fits.ensures i)
