@@ -4,7 +4,7 @@
 
 ghost use Rattle.lister.specs.Input.{Within};
 
-use libc::{STDERR_FILENO, STDIN_FILENO, STDOUT_FILENO};
+use std::io::{Read, Stdin};
 
 // One byte past the longest input is enough to know that an input is too long.
 const INPUT_BYTES: usize = listing::LONGEST_INPUT + 1;
@@ -17,23 +17,22 @@ enum Input {
 }
 
 // One read: it may give a part of what is there, and gives no byte at the end of the input.
-fn read_part(part: &mut [u8]) -> Input
+fn read_part(mut from: Stdin, part: &mut [u8]) -> Input
     ensures { Within result part.new }
 {
-    let got = libc::read(STDIN_FILENO, part);
-    if got < 0 {
-        return Input::Failed;
+    match from.read(part) {
+        Ok(more) => Input::Bytes(more),
+        Err(_) => Input::Failed,
     }
-    Input::Bytes(io::count(got, part))
 }
 
 // Reads until no byte comes, a read fails or the buffer is full.
-fn read_input(buffer: &mut [u8]) -> Input
+fn read_input(from: Stdin, buffer: &mut [u8]) -> Input
     ensures { Within result buffer.new }
 {
     let mut done: usize = 0;
     while done < buffer.len() {
-        match read_part(&mut buffer[done..]) {
+        match read_part(from, &mut buffer[done..]) {
             Input::Bytes(more) => {
                 if more == 0 {
                     return Input::Bytes(done);
@@ -46,27 +45,28 @@ fn read_input(buffer: &mut [u8]) -> Input
     Input::Bytes(done)
 }
 
-fn complain(message: &[u8]) {
-    io::write_all(STDERR_FILENO, message);
+// Where standard error cannot be written either, nothing is said.
+fn complain(rt: &HostRuntime, message: &[u8]) {
+    let _ = rt.stderr().write_all(message);
 }
 
-fn write_out(text: &[u8]) {
-    if !io::write_all(STDOUT_FILENO, text) {
-        complain(b"lister: standard output cannot be written\n");
+fn write_out(rt: &HostRuntime, text: &[u8]) {
+    if rt.stdout().write_all(text).is_err() {
+        complain(rt, b"lister: standard output cannot be written\n");
     }
 }
 
 // The buffer holds any listing, so that nothing is refused.
-fn list(input: &[u8]) {
+fn list(rt: &HostRuntime, input: &[u8]) {
     let mut text = [0u8; listing::LONGEST_LISTING];
     let length = listing::list_whole(input, &mut text);
-    write_out(&text[..length]);
+    write_out(rt, &text[..length]);
 }
 
-fn main() {
+fn main(rt: HostRuntime) {
     let mut buffer = [0u8; INPUT_BYTES];
-    match read_input(&mut buffer) {
-        Input::Bytes(n) => list(&buffer[..n]),
-        Input::Failed => complain(b"lister: standard input cannot be read\n"),
+    match read_input(rt.stdin(), &mut buffer) {
+        Input::Bytes(n) => list(&rt, &buffer[..n]),
+        Input::Failed => complain(&rt, b"lister: standard input cannot be read\n"),
     }
 }
