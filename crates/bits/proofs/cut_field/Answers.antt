@@ -4,7 +4,6 @@ use Rattle.bits.proofs.cut_field.Goals as goal
 
 pub returns : goal.returns
 returns c =
-    let w = c in
-    let a = w.args in
-    answer a.start a.width a.bytes.now w.window.result c.two_to.result c.two_to-2.result
-    w.window.ensures c.two_to.ensures.0 c.two_to-2.ensures.0
+    let a = c.args in
+    answer a.start a.width a.bytes.now c.window.result c.two_to.result c.two_to-2.result
+    c.window.ensures c.two_to.ensures.0 c.two_to-2.ensures.0

@@ -14,27 +14,23 @@ loop-left-init c =
 
 pub overflow_mul-value : goal.overflow_mul-value
 overflow_mul-value c =
-    let l = c in
-    let a = l.args in
-    omega (arith, decimal-small (a.count - l.loop-left.left) (a.code / 2 ^ (4 * l.loop-left.left)) (omega arith))
+    let a = c.args in
+    omega (arith, decimal-small (a.count - c.loop-left.left) (a.code / 2 ^ (4 * c.loop-left.left)) (omega arith))
 
 pub overflow_add-value : goal.overflow_add-value
 overflow_add-value c =
-    let l = c in
-    let a = l.args in
-    omega (arith, decimal-small (a.count - l.loop-left.left) (a.code / 2 ^ (4 * l.loop-left.left)) (omega arith))
+    let a = c.args in
+    omega (arith, decimal-small (a.count - c.loop-left.left) (a.code / 2 ^ (4 * c.loop-left.left)) (omega arith))
 
 pub loop-left-preserved : goal.loop-left-preserved
 loop-left-preserved c =
-    let l = c in
-    let a = l.args in (
+    let a = c.args in (
       search rules,
-      (λ i. l.loop-left.invariant.1 i * 10 + a.code / c.two_to.ensures.0 i % 16)
-          ∙ digits_more a.count l.loop-left.left a.code (search rules) (search rules),
+      (λ i. c.loop-left.invariant.1 i * 10 + a.code / c.two_to.ensures.0 i % 16)
+          ∙ digits_more a.count c.loop-left.left a.code (search rules) (search rules),
     )
 
 pub returns : goal.returns
 returns c =
-    let l = c in
-    let a = l.args in
-    l.loop-left.invariant.1 ∙ digits-whole a.count l.loop-left.left a.code (search rules)
+    let a = c.args in
+    c.loop-left.invariant.1 ∙ digits-whole a.count c.loop-left.left a.code (search rules)

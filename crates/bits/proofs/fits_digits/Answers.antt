@@ -12,16 +12,14 @@ loop-k-init c = (search rules, sym (div-one c.args.value))
 
 pub loop-k-preserved : goal.loop-k-preserved
 loop-k-preserved c =
-    let l = c in
-    let x = l.args.value in
-    let k = l.loop-k.k in (
+    let x = c.args.value in
+    let k = c.loop-k.k in (
       search rules,
-      ap (λ (z : ℕ). z / 10) l.loop-k.invariant.1 ∙ div-div-eq-div-mul x (10 ^ k) 10 ∙ ap (λ (z : ℕ). x / z) (sym (ten-more k)),
+      ap (λ (z : ℕ). z / 10) c.loop-k.invariant.1 ∙ div-div-eq-div-mul x (10 ^ k) 10 ∙ ap (λ (z : ℕ). x / z) (sym (ten-more k)),
     )
 
 pub returns : goal.returns
 returns c =
-    let l = c in
-    let a = l.args in
-    let done : l.loop-k.k ≡ a.count = search rules in
-    ap (λ (z : ℕ). eqb z 0) (l.loop-k.invariant.1 ∙ ap (λ (z : ℕ). a.value / 10 ^ z) done) ∙ none_left a.value a.count
+    let a = c.args in
+    let done : c.loop-k.k ≡ a.count = search rules in
+    ap (λ (z : ℕ). eqb z 0) (c.loop-k.invariant.1 ∙ ap (λ (z : ℕ). a.value / 10 ^ z) done) ∙ none_left a.value a.count

@@ -15,7 +15,7 @@ all c =
     c.ranges.old.fits (omega arith) c.two_to-p.ensures.0 c.two_to-t.ensures.0
 
 pub overflow_mul-result : goal.overflow_mul-result
-overflow_mul-result c = let a = c in omega (arith, (all (goal.at.overflow_mul-result c).After-two_to-t).less, a.ranges.old.fits)
+overflow_mul-result c = omega (arith, (all (goal.at.overflow_mul-result c).After-two_to-t).less, c.ranges.old.fits)
 
 pub overflow_sub-result : goal.overflow_sub-result
 overflow_sub-result c = (all (goal.at.overflow_sub-result c).After-two_to-t).less

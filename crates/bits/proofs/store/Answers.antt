@@ -13,21 +13,19 @@ loop-k-init c = (search rules, rest-whole _ _ _ (search rules), stored-none _ _ 
 
 pub loop-k-preserved : goal.loop-k-preserved
 loop-k-preserved c =
-    let s = c in
-    let l = s in
-    let a = l.args in
+    let a = c.args in
     let x = a.x in
     let n = a.n in
-    let k = l.loop-k.k in
+    let k = c.loop-k.k in
     let back : k ≡ k - 1 + 1 = omega arith in
     let place : n - k ≡ n - 1 - (k - 1) = omega arith in
     let byte =
-    s.narrow.ensures ∙ ap (λ (z : ℕ). z % 256) l.loop-k.invariant.1 ∙ ap (λ (z : ℕ). x / 2 ^ (8 * z) % 256) place in (
+    c.narrow.ensures ∙ ap (λ (z : ℕ). z % 256) c.loop-k.invariant.1 ∙ ap (λ (z : ℕ). x / 2 ^ (8 * z) % 256) place in (
       search rules,
-      ap (λ (z : ℕ). z / 256) l.loop-k.invariant.1 ∙ rest-less x n k (search rules) (search rules),
-      subst (λ (z : List ℕ). Stored a.from n x (k - 1) a.bytes.now z) (sym s.set_byte.ensures)
-          (stored_more a.from n x (k - 1) s.narrow.result a.bytes.now l.loop-k.bytes (omega arith) byte
-          (subst (λ (z : ℕ). Stored a.from n x z a.bytes.now l.loop-k.bytes) back l.loop-k.invariant.2)),
+      ap (λ (z : ℕ). z / 256) c.loop-k.invariant.1 ∙ rest-less x n k (search rules) (search rules),
+      subst (λ (z : List ℕ). Stored a.from n x (k - 1) a.bytes.now z) (sym c.set_byte.ensures)
+          (stored_more a.from n x (k - 1) c.narrow.result a.bytes.now c.loop-k.bytes (omega arith) byte
+          (subst (λ (z : ℕ). Stored a.from n x z a.bytes.now c.loop-k.bytes) back c.loop-k.invariant.2)),
     )
 
 pub shape_of-bytes : goal.shape_of-bytes
@@ -35,7 +33,6 @@ shape_of-bytes c = c.loop-k.invariant.2.same
 
 pub returns : goal.returns
 returns c =
-    let l = c in
-    let a = l.args in
-    let e : l.loop-k.k ≡ 0 = omega arith in
-    subst (λ (z : ℕ). Stored a.from a.n a.x z a.bytes.now l.loop-k.bytes) e l.loop-k.invariant.2
+    let a = c.args in
+    let e : c.loop-k.k ≡ 0 = omega arith in
+    subst (λ (z : ℕ). Stored a.from a.n a.x z a.bytes.now c.loop-k.bytes) e c.loop-k.invariant.2

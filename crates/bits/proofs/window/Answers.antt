@@ -13,26 +13,22 @@ loop-k-init c = (search rules, sym (none (8 * c.args.from) c.args.bytes.now))
 
 pub overflow_mul-x : goal.overflow_mul-x
 overflow_mul-x c =
-    let l = c in
-    let a = l.args in
-    omega (arith, within 56 (8 * a.from) (8 * l.loop-k.k) a.bytes.now (omega arith))
+    let a = c.args in
+    omega (arith, within 56 (8 * a.from) (8 * c.loop-k.k) a.bytes.now (omega arith))
 
 pub overflow_add-x : goal.overflow_add-x
 overflow_add-x c =
-    let l = c in
-    let a = l.args in
-    omega (arith, within 56 (8 * a.from) (8 * l.loop-k.k) a.bytes.now (omega arith))
+    let a = c.args in
+    omega (arith, within 56 (8 * a.from) (8 * c.loop-k.k) a.bytes.now (omega arith))
 
 pub loop-k-preserved : goal.loop-k-preserved
 loop-k-preserved c =
-    let l = c in
-    let a = l.args in
-    let e : c.byte_at.result ≡ get_or a.bytes.now (a.from + l.loop-k.k) 0 = c.byte_at.ensures.0 in
-    (search rules, omega (arith, e, more a.from l.loop-k.k a.bytes.now (omega (arith, e))))
+    let a = c.args in
+    let e : c.byte_at.result ≡ get_or a.bytes.now (a.from + c.loop-k.k) 0 = c.byte_at.ensures.0 in
+    (search rules, omega (arith, e, more a.from c.loop-k.k a.bytes.now (omega (arith, e))))
 
 pub returns : goal.returns
 returns c =
-    let l = c in
-    let a = l.args in
-    let e : l.loop-k.k ≡ a.count = omega arith in
-    l.loop-k.invariant.1 ∙ ap (λ (z : ℕ). get_bits (8 * a.from) (8 * z) a.bytes.now) e
+    let a = c.args in
+    let e : c.loop-k.k ≡ a.count = omega arith in
+    c.loop-k.invariant.1 ∙ ap (λ (z : ℕ). get_bits (8 * a.from) (8 * z) a.bytes.now) e

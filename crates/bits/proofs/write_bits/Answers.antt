@@ -6,6 +6,5 @@ use Rattle.bits.proofs.write_bits.Goals as goal
 
 pub returns : goal.returns
 returns c =
-    let p = c in
-    let a = p.args in
-    p.put_field.ensures ∙ ap (λ (w : ℕ). set_bits a.start w a.value a.bytes.now) p.lesser.ensures
+    let a = c.args in
+    c.put_field.ensures ∙ ap (λ (w : ℕ). set_bits a.start w a.value a.bytes.now) c.lesser.ensures

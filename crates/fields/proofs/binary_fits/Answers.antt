@@ -12,15 +12,13 @@ bits_fit-requires c = is-readable _ (held _ (sym c.is_readable.ensures ∙ c.if-
 pub returns-then-is_readable : goal.returns-then-is_readable
 unfolding fits_binary
 returns-then-is_readable c =
-    let r = c in
-    let a = r.args in
+    let a = c.args in
     ap (λ (t : Bool). (is_decimal a.f || t) && a.rest) c.bits_fit.ensures
     ∙ sym (ap (λ (t : Bool). (not t || binary_fits a.f a.value) && a.rest)
-    (sym r.is_readable.ensures ∙ c.if-is_readable.true))
+    (sym c.is_readable.ensures ∙ c.if-is_readable.true))
 
 pub returns : goal.returns
 unfolding fits_binary
 returns c =
-    let r = c in
-    let a = r.args in
-    sym (ap (λ (t : Bool). (not t || binary_fits a.f a.value) && a.rest) (sym r.is_readable.ensures ∙ c.if-is_readable.false))
+    let a = c.args in
+    sym (ap (λ (t : Bool). (not t || binary_fits a.f a.value) && a.rest) (sym c.is_readable.ensures ∙ c.if-is_readable.false))

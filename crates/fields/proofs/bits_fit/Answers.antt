@@ -10,13 +10,11 @@ use Rattle.fields.proofs.bits_fit.Goals as goal
 
 pub returns-then-signed : goal.returns-then-signed
 returns-then-signed c =
-    let start = c in
-    let a = start.args in
-    c.fits.ensures ∙ fits_signed a.f start.requires a.value c.if-signed.true
+    let a = c.args in
+    c.fits.ensures ∙ fits_signed a.f c.requires a.value c.if-signed.true
 
 pub returns : goal.returns
 returns c =
-    let e = c in
-    let a = e.args in
+    let a = c.args in
     c.fits_bits.ensures
-    ∙ sym (ap (λ (t : Bool). cond t (signed_fits (bit_width a.f) a.value) (ltb a.value (2 ^ bit_width a.f))) e.if-signed.false)
+    ∙ sym (ap (λ (t : Bool). cond t (signed_fits (bit_width a.f) a.value) (ltb a.value (2 ^ bit_width a.f))) c.if-signed.false)

@@ -5,12 +5,10 @@ use Rattle.fields.proofs.code_of.Goals as goal
 
 pub returns-then-decimal : goal.returns-then-decimal
 returns-then-decimal c =
-    let start = c in
-    let a = start.args in
-    c.decimal_code.ensures ∙ code-decimal a.f start.requires a.value c.if-decimal.true
+    let a = c.args in
+    c.decimal_code.ensures ∙ code-decimal a.f c.requires a.value c.if-decimal.true
 
 pub returns : goal.returns
 returns c =
-    let start = c in
-    let a = start.args in
-    code-binary a.f start.requires a.value c.if-decimal.false
+    let a = c.args in
+    code-binary a.f c.requires a.value c.if-decimal.false

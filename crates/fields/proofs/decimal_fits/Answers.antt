@@ -5,5 +5,4 @@ use Rattle.fields.proofs.decimal_fits.Goals as goal
 
 pub returns : goal.returns
 returns c =
-    let fit = c in
-    λ i. not (c.is_readable-no_field.ensures i) || (not (is_decimal fit.args.f) || fit.fits_digits-fits.ensures i)
+    λ i. not (c.is_readable-no_field.ensures i) || (not (is_decimal c.args.f) || c.fits_digits-fits.ensures i)

@@ -11,13 +11,11 @@ digits_of-requires c = is-readable _ (held _ (sym c.is_readable.ensures ∙ c.if
 
 pub returns-then-is_readable : goal.returns-then-is_readable
 returns-then-is_readable c =
-    let r = c in
-    let a = r.args in
+    let a = c.args in
     c.digits_of.ensures
-    ∙ sym (ap (λ (t : Bool). not t || digits_good a.f a.bytes.now) (sym r.is_readable.ensures ∙ c.if-is_readable.true))
+    ∙ sym (ap (λ (t : Bool). not t || digits_good a.f a.bytes.now) (sym c.is_readable.ensures ∙ c.if-is_readable.true))
 
 pub returns : goal.returns
 returns c =
-    let r = c in
-    let a = r.args in
-    sym (ap (λ (t : Bool). not t || digits_good a.f a.bytes.now) (sym r.is_readable.ensures ∙ c.if-is_readable.false))
+    let a = c.args in
+    sym (ap (λ (t : Bool). not t || digits_good a.f a.bytes.now) (sym c.is_readable.ensures ∙ c.if-is_readable.false))

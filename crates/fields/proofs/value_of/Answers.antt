@@ -5,28 +5,20 @@ use Rattle.fields.proofs.value_of.Goals as goal
 
 pub returns-then-decimal : goal.returns-then-decimal
 returns-then-decimal c =
-    let r = c in
-    let start = r in
-    let a = start.args in
+    let a = c.args in
     c.decimal_value.ensures
-    ∙ read-decimal a.f start.requires a.bytes.now r.first_bit.result r.read_bits-code.result
-    r.first_bit.ensures r.read_bits-code.ensures.0 c.if-decimal.true
+    ∙ read-decimal a.f c.requires a.bytes.now c.first_bit.result c.read_bits-code.result
+    c.first_bit.ensures c.read_bits-code.ensures.0 c.if-decimal.true
 
 pub returns-then-signed : goal.returns-then-signed
 returns-then-signed c =
-    let e = c in
-    let r = e in
-    let start = r in
-    let a = start.args in
+    let a = c.args in
     c.value_of.ensures
-    ∙ read-signed a.f start.requires a.bytes.now r.first_bit.result r.read_bits-code.result
-    r.first_bit.ensures r.read_bits-code.ensures.0 e.if-decimal.false c.if-signed.true
+    ∙ read-signed a.f c.requires a.bytes.now c.first_bit.result c.read_bits-code.result
+    c.first_bit.ensures c.read_bits-code.ensures.0 c.if-decimal.false c.if-signed.true
 
 pub returns : goal.returns
 returns c =
-    let e = c in
-    let r = e in
-    let start = r in
-    let a = start.args in
-    read-binary a.f start.requires a.bytes.now r.first_bit.result r.read_bits-code.result
-    r.first_bit.ensures r.read_bits-code.ensures.0 e.if-decimal.false c.if-signed.false
+    let a = c.args in
+    read-binary a.f c.requires a.bytes.now c.first_bit.result c.read_bits-code.result
+    c.first_bit.ensures c.read_bits-code.ensures.0 c.if-decimal.false c.if-signed.false

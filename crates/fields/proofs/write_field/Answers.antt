@@ -11,16 +11,13 @@ put_value-requires c = is-readable _ (held _ (sym c.is_readable.ensures ∙ c.if
 
 pub returns-then-is_readable : goal.returns-then-is_readable
 returns-then-is_readable c =
-    let p = c in
-    let t = p in
-    let a = t.args in
-    p.put_value.ensures
-    ∙ sym (ap (λ (t : Bool). cond t (with_value a.f a.value a.bytes.now) a.bytes.now)
-    (sym t.is_readable.ensures ∙ t.if-is_readable.true))
+    let a = c.args in
+    c.put_value.ensures
+    ∙ sym (ap (λ (c : Bool). cond c (with_value a.f a.value a.bytes.now) a.bytes.now)
+    (sym c.is_readable.ensures ∙ c.if-is_readable.true))
 
 pub returns-else-is_readable : goal.returns-else-is_readable
 returns-else-is_readable c =
-    let r = c in
-    let a = r.args in
+    let a = c.args in
     sym (ap (λ (t : Bool). cond t (with_value a.f a.value a.bytes.now) a.bytes.now)
-    (sym r.is_readable.ensures ∙ c.if-is_readable.false))
+    (sym c.is_readable.ensures ∙ c.if-is_readable.false))

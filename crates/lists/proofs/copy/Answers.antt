@@ -10,14 +10,14 @@ pub loop-k-init : goal.loop-k-init
 loop-k-init c = (c.lesser-n.ensures, omega arith, filled_none _ _ 0)
 
 pub bounds-to-k : goal.bounds-to-k
-bounds-to-k c = let l = c in omega (arith, l.loop-k.invariant.2.same)
+bounds-to-k c = omega (arith, c.loop-k.invariant.2.same)
 
 pub loop-k-preserved : goal.loop-k-preserved
 loop-k-preserved c =
-    let l = c in (
-      l.loop-k.invariant.0,
+    (
+      c.loop-k.invariant.0,
       omega arith,
-      filled_more (get_or l.args.from.now l.loop-k.k 0) (omega arith) refl l.loop-k.invariant.2,
+      filled_more (get_or c.args.from.now c.loop-k.k 0) (omega arith) refl c.loop-k.invariant.2,
     )
 
 pub returns : goal.returns

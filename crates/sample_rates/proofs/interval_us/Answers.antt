@@ -14,6 +14,5 @@ returns-then-rate-eq0 c =
 
 pub returns : goal.returns
 returns c =
-    let e = c in
-    let hz = e.args.rate.hz in
-    (sym (ap (λ (t : Bool). cond t 0 (second_us / hz)) (ne_eqb hz 0 e.if-rate-eq0.false)), div-le_self second_us hz)
+    let hz = c.args.rate.hz in
+    (sym (ap (λ (t : Bool). cond t 0 (second_us / hz)) (ne_eqb hz 0 c.if-rate-eq0.false)), div-le_self second_us hz)

@@ -37,19 +37,12 @@ returns-then-hz-eq200 c = c.line-then-hz-eq200.ensures ∙ sym (ap (line_in rate
 pub returns : goal.returns
 unfolding line_in
 returns c =
-    let l7 = c in
-    let l6 = l7 in
-    let l5 = l6 in
-    let l4 = l5 in
-    let l3 = l4 in
-    let l2 = l3 in
-    let l1 = l2 in
-    let hz = l1.args.hz in
+    let hz = c.args.hz in
     c.no_rate.ensures
-    ∙ passed rates1985 hz 6 (search rules) (λ z. l7.if-hz-eq200.false (sym z))
-    ∙ passed rates1985 hz 5 (search rules) (λ z. l6.if-hz-eq1000.false (sym z))
-    ∙ passed rates1985 hz 4 (search rules) (λ z. l5.if-hz-eq2000.false (sym z))
-    ∙ passed rates1985 hz 3 (search rules) (λ z. l4.if-hz-eq5000.false (sym z))
-    ∙ passed rates1985 hz 2 (search rules) (λ z. l3.if-hz-eq10000.false (sym z))
-    ∙ passed rates1985 hz 1 (search rules) (λ z. l2.if-hz-eq20000.false (sym z))
-    ∙ passed rates1985 hz 0 (search rules) (λ z. l1.if-hz-eq50000.false (sym z))
+    ∙ passed rates1985 hz 6 (search rules) (λ z. c.if-hz-eq200.false (sym z))
+    ∙ passed rates1985 hz 5 (search rules) (λ z. c.if-hz-eq1000.false (sym z))
+    ∙ passed rates1985 hz 4 (search rules) (λ z. c.if-hz-eq2000.false (sym z))
+    ∙ passed rates1985 hz 3 (search rules) (λ z. c.if-hz-eq5000.false (sym z))
+    ∙ passed rates1985 hz 2 (search rules) (λ z. c.if-hz-eq10000.false (sym z))
+    ∙ passed rates1985 hz 1 (search rules) (λ z. c.if-hz-eq20000.false (sym z))
+    ∙ passed rates1985 hz 0 (search rules) (λ z. c.if-hz-eq50000.false (sym z))

@@ -49,25 +49,15 @@ returns-then-hz-eq4000 c = c.line_1992-then-hz-eq4000.ensures ∙ sym (ap (line_
 pub returns : goal.returns
 unfolding line_in
 returns c =
-    let l10 = c in
-    let l9 = l10 in
-    let l8 = l9 in
-    let l7 = l8 in
-    let l6 = l7 in
-    let l5 = l6 in
-    let l4 = l5 in
-    let l3 = l4 in
-    let l2 = l3 in
-    let l1 = l2 in
-    let hz = l1.args.hz in
+    let hz = c.args.hz in
     c.slow_rate_1992.ensures
-    ∙ passed rates1992 hz 9 (search rules) (λ z. l10.if-hz-eq4000.false (sym z))
-    ∙ passed rates1992 hz 8 (search rules) (λ z. l9.if-hz-eq5000.false (sym z))
-    ∙ passed rates1992 hz 7 (search rules) (λ z. l8.if-hz-eq6250.false (sym z))
-    ∙ passed rates1992 hz 6 (search rules) (λ z. l7.if-hz-eq10000.false (sym z))
-    ∙ passed rates1992 hz 5 (search rules) (λ z. l6.if-hz-eq12500.false (sym z))
-    ∙ passed rates1992 hz 4 (search rules) (λ z. l5.if-hz-eq15625.false (sym z))
-    ∙ passed rates1992 hz 3 (search rules) (λ z. l4.if-hz-eq20000.false (sym z))
-    ∙ passed rates1992 hz 2 (search rules) (λ z. l3.if-hz-eq25000.false (sym z))
-    ∙ passed rates1992 hz 1 (search rules) (λ z. l2.if-hz-eq31250.false (sym z))
-    ∙ passed rates1992 hz 0 (search rules) (λ z. l1.if-hz-eq50000.false (sym z))
+    ∙ passed rates1992 hz 9 (search rules) (λ z. c.if-hz-eq4000.false (sym z))
+    ∙ passed rates1992 hz 8 (search rules) (λ z. c.if-hz-eq5000.false (sym z))
+    ∙ passed rates1992 hz 7 (search rules) (λ z. c.if-hz-eq6250.false (sym z))
+    ∙ passed rates1992 hz 6 (search rules) (λ z. c.if-hz-eq10000.false (sym z))
+    ∙ passed rates1992 hz 5 (search rules) (λ z. c.if-hz-eq12500.false (sym z))
+    ∙ passed rates1992 hz 4 (search rules) (λ z. c.if-hz-eq15625.false (sym z))
+    ∙ passed rates1992 hz 3 (search rules) (λ z. c.if-hz-eq20000.false (sym z))
+    ∙ passed rates1992 hz 2 (search rules) (λ z. c.if-hz-eq25000.false (sym z))
+    ∙ passed rates1992 hz 1 (search rules) (λ z. c.if-hz-eq31250.false (sym z))
+    ∙ passed rates1992 hz 0 (search rules) (λ z. c.if-hz-eq50000.false (sym z))

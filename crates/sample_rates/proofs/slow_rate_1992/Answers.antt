@@ -46,23 +46,14 @@ returns-then-hz-eq200 c = c.line_1992-then-hz-eq200.ensures ∙ sym (ap (line_in
 pub returns : goal.returns
 unfolding line_in
 returns c =
-    let l9 = c in
-    let l8 = l9 in
-    let l7 = l8 in
-    let l6 = l7 in
-    let l5 = l6 in
-    let l4 = l5 in
-    let l3 = l4 in
-    let l2 = l3 in
-    let l1 = l2 in
-    let hz = l1.args.hz in
+    let hz = c.args.hz in
     c.no_rate.ensures
-    ∙ passed rates1992 hz 18 (search rules) (λ z. l9.if-hz-eq200.false (sym z))
-    ∙ passed rates1992 hz 17 (search rules) (λ z. l8.if-hz-eq250.false (sym z))
-    ∙ passed rates1992 hz 16 (search rules) (λ z. l7.if-hz-eq400.false (sym z))
-    ∙ passed rates1992 hz 15 (search rules) (λ z. l6.if-hz-eq500.false (sym z))
-    ∙ passed rates1992 hz 14 (search rules) (λ z. l5.if-hz-eq1000.false (sym z))
-    ∙ passed rates1992 hz 13 (search rules) (λ z. l4.if-hz-eq1250.false (sym z))
-    ∙ passed rates1992 hz 12 (search rules) (λ z. l3.if-hz-eq2000.false (sym z))
-    ∙ passed rates1992 hz 11 (search rules) (λ z. l2.if-hz-eq2500.false (sym z))
-    ∙ passed rates1992 hz 10 (search rules) (λ z. l1.if-hz-eq3125.false (sym z))
+    ∙ passed rates1992 hz 18 (search rules) (λ z. c.if-hz-eq200.false (sym z))
+    ∙ passed rates1992 hz 17 (search rules) (λ z. c.if-hz-eq250.false (sym z))
+    ∙ passed rates1992 hz 16 (search rules) (λ z. c.if-hz-eq400.false (sym z))
+    ∙ passed rates1992 hz 15 (search rules) (λ z. c.if-hz-eq500.false (sym z))
+    ∙ passed rates1992 hz 14 (search rules) (λ z. c.if-hz-eq1000.false (sym z))
+    ∙ passed rates1992 hz 13 (search rules) (λ z. c.if-hz-eq1250.false (sym z))
+    ∙ passed rates1992 hz 12 (search rules) (λ z. c.if-hz-eq2000.false (sym z))
+    ∙ passed rates1992 hz 11 (search rules) (λ z. c.if-hz-eq2500.false (sym z))
+    ∙ passed rates1992 hz 10 (search rules) (λ z. c.if-hz-eq3125.false (sym z))
