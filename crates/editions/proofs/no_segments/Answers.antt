@@ -3,16 +3,12 @@ use mathlib.Core.Path.{◌≡◌, ap, sym, refl, ◌∙◌}
 use mathlib.Core.Bool.{Bool, true, false, cond}
 use lib.Dec.{eqb}
 use Rattle.header.specs.Edition.{Edition, edition1985, edition1992, edition_of, no_segments}
-use Rattle.editions.proofs.no_segments.Statement.{statement}
-use Rattle.editions.proofs.no_segments.Tie as tie
+use Rattle.editions.proofs.no_segments.Goals as goal
 
 by-test : (t : Bool) → t ≡ eqb (cond t edition1992 edition1985).layout.monitor-words 0
 by-test true = refl
 by-test false = refl
 
-returns : tie.Need-returns
+pub returns : goal.returns
 unfolding edition_of
 returns c = by-test (eqb c.args.edition 1992)
-
-pub no-segments-spec : {M : Type 1} → statement M
-no-segments-spec = tie.close (tie.spec returns)

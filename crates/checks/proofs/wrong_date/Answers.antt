@@ -1,0 +1,5 @@
+use borrow.Author.Rules.{rules}
+use Rattle.checks.proofs.wrong_date.Goals as goal
+
+pub returns : goal.returns
+returns c = cc
