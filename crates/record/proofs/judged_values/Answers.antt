@@ -5,15 +5,13 @@ use Rattle.fields.specs.Table.{value_in}
 use Rattle.header.specs.Rows as row
 use Rattle.header.specs.Edition.{fields_of}
 use Rattle.header.proofs.Sound.{sample-rate-placed, sync-placed, decimals-common}
-use Rattle.record.proofs.judged_values.Statement.{statement}
-use Rattle.record.proofs.judged_values.Tie as tie
+use Rattle.record.proofs.judged_values.Goals as goal
 
-returns : tie.Need-returns
+pub returns : goal.returns
 returns c =
-    let start = c.before in
-    let a = start.args in
+    let a = c.args in
     let n = a.edition in
-    let v = a.t3 in
+    let v = a.values in
     λ i.
     record {
       bytes = a.bytes;
@@ -27,16 +25,7 @@ returns c =
       day = get_or v 13 0;
       time_tag = get_or v 14 0;
       readback_tag = get_or v 27 0;
-      decimals = (c.decimals-fit.ensures ∙ decimals-common n v (search (rules, start.well-formed))) i;
+      decimals = (c.decimals_fit-decimals.ensures ∙ decimals-common n v (search (rules, c.well_formed))) i;
       clock_origin = get_or v 0 0;
       sync = sync-placed n v i;
     }
-
-pub judged-values-spec : {M : Type 1} → statement M
-judged-values-spec =
-    tie.close
-    (tie.spec
-    (λ c κs. search rules) (λ c. search rules) (λ c. search rules) (λ c. search rules) (λ c. search rules)
-    (λ c. search rules) (λ c. search rules) (λ c. search rules) (λ c. search rules) (λ c. search rules)
-    (λ c. search rules) (λ c. search rules) (λ c. search rules)
-    returns)
