@@ -1,5 +1,4 @@
 use mathlib.Core.Path.{refl}
-use borrow.Author.Rules.{rules}
 use Rattle.numbers.proofs.Writing.{written_both}
 use Rattle.text.proofs.write_frequency.Goals as goal
 

@@ -1,5 +1,4 @@
 use mathlib.Core.Path.{refl}
-use borrow.Author.Rules.{rules}
 use Rattle.text.specs.Text.{refused_line}
 use Rattle.numbers.proofs.Writing.{written_both}
 use Rattle.text.proofs.write_refused_line.Goals as goal
