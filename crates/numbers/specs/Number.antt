@@ -2,12 +2,12 @@
 -- numbers.
 use Rattle.std.specs.Prelude.{Bool, true, false, List, [], ◌∷◌, ◌++◌, ℕ, zero, suc, ◌+◌, ◌-◌, ◌*◌, ◌/◌, ◌%◌, ◌^◌, ltb, ℤ, pos, negsuc, nat_abs}
 use Prim.Native.Char.{code}
-use Prim.Native.String.{String, [] as [], ◌∷◌ as ◌∷◌}
+use Prim.Native.String.{String, [] as empty, ◌∷◌ as ◌then◌}
 
 -- the characters of a text
 abbrev pub ascii : String → List ℕ
-ascii [] = []
-ascii (c ∷ s) = code c ∷ ascii s
+ascii empty = []
+ascii (c then s) = code c ∷ ascii s
 
 -- the units digit of n; 48 is the character 0
 abbrev pub digit : ℕ → ℕ

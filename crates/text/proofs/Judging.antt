@@ -1,6 +1,6 @@
 -- A text is judged by its length before it is put into a buffer: what the judgement says of the room, of the answer and of the
 -- buffer. Assumes nothing.
-use mathlib.Core.Path.{◌≡◌, refl, sym, ap, ◌∙◌}
+use mathlib.Core.Path.{◌≡◌, sym, ap, ◌∙◌}
 use mathlib.Core.Bool.{Bool, true, false}
 use mathlib.Core.List.{List, [], ◌∷◌, ◌++◌}
 use Prim.Native.Nat.{ℕ, ◌+◌, ◌≤◌, ◌<◌}
@@ -10,7 +10,7 @@ use lib.Dec.{leb, ltb}
 use lib.ListN.{length, take, drop}
 use lib.Seq.{sets-eq, length-sets, take-append_seam}
 use borrow.Author.Tests.{leb-true, leb-false, lt-ltb, le-ltb}
-use Rattle.answers.specs.Answer.{Answer, accepted, refused, unless}
+use Rattle.answers.specs.Answer.{Answer, accepted, refused}
 use Rattle.answers.specs.Refusal.{◌when◌, first}
 use Rattle.answers.proofs.Refusals.{unless-none, unless-some, cond-none, cond-some}
 use Rattle.numbers.specs.Writing.{Room, Written}

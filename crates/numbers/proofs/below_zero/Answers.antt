@@ -3,11 +3,7 @@ use mathlib.Core.Path.{ap}
 use lib.IntN.{ℤ, pos}
 use lib.Signed.{lt_z}
 use mir.Facts.{to_z-of_z}
-use Rattle.numbers.proofs.below_zero.Statement.{statement}
-use Rattle.numbers.proofs.below_zero.Tie as tie
+use Rattle.numbers.proofs.below_zero.Goals as goal
 
-returns : tie.Need-returns
+pub returns : goal.returns
 returns c = ap (λ (z : ℤ). lt_z z (pos 0)) (to_z-of_z c.ranges.z)
-
-pub below-zero-spec : {M : Type 1} → statement M
-below-zero-spec = tie.close (tie.spec returns)
