@@ -1,9 +1,8 @@
--- What reading promises: the bytes counted lie within the buffer.
-use Rattle.std.specs.Prelude.{List, ℕ}
-use Rattle.io.specs.Counts.{IsPrefixLen}
+-- What reading promises: the bytes counted lie within the buffer, so that they are a slice of it of that length.
+use Rattle.std.specs.Prelude.{ℕ, List, ◌≡◌, ◌≤◌, length, take}
 use Rattle.lister.specs.declared.Input.{Input}
 use Rattle.lister.specs.declared.Input.TheVariants.{Bytes, Failed}
 
 abbrev pub Within : Input → List ℕ → Type 0
-Within (Bytes n) buffer = IsPrefixLen n buffer
+Within (Bytes n) buffer = (n ≤ length buffer) × (n ≡ length (take n buffer))
 Within Failed buffer = Unit
