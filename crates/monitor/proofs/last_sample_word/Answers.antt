@@ -4,14 +4,10 @@ use Rattle.sample_rates.specs.Rates.{last_sample_word}
 use Rattle.monitor.specs.Monitor.{last_sample_word_of, most_last_word}
 use Rattle.monitor.proofs.Monitor.{last-word-most}
 use borrow.Author.Rules.{rules}
-use Rattle.monitor.proofs.last_sample_word.Statement.{statement}
-use Rattle.monitor.proofs.last_sample_word.Tie as tie
+use Rattle.monitor.proofs.last_sample_word.Goals as goal
 
-returns : tie.Need-returns
+pub returns : goal.returns
 unfolding last_sample_word_of
 returns c =
-    let e = ap last_sample_word c.rate-of.ensures in
+    let e = ap last_sample_word c.rate_of-rate.ensures in
     (e, subst (λ (n : ℕ). n ≤ most_last_word) (sym e) (last-word-most _ _))
-
-pub last-sample-word-spec : {M : Type 1} → statement M
-last-sample-word-spec = tie.close (tie.spec (λ c κs. search rules) returns)
