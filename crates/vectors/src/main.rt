@@ -6,7 +6,7 @@ use header::{EDITION_1985, EDITION_1992};
 use index_model::{Opening, WIDTH};
 use index_open::OpenAnswer;
 use index_query::ConsistencyAnswer;
-use libc::STDOUT_FILENO;
+use std::io;
 
 // Bytes of the lister's case: 390 words.
 const CASE_BYTES: usize = 780;
@@ -41,10 +41,8 @@ fn lister_case() -> [u8; CASE_BYTES] {
     bytes
 }
 
-fn print_line(asked: &[u8], number: u8) {
-    io::write_all(STDOUT_FILENO, asked);
-    io::print_decimal(STDOUT_FILENO, number as u64);
-    io::write_all(STDOUT_FILENO, b"\n");
+fn print_line(rt: &impl Print, asked: &str, number: u8) -> io::Result<()> {
+    println!(rt; "{asked}{number}")
 }
 
 fn refusal_of(bytes: &[u8; CASE_BYTES]) -> u8 {
@@ -68,28 +66,36 @@ fn refusal_written(date: u16) -> u8 {
     record::write_header(EDITION_1985, &mut bytes, values)
 }
 
-fn print_date(asked: &[u8], date: u16) {
-    print_line(asked, refusal_read(date));
-    print_line(b"  written: ", refusal_written(date));
+fn print_date(rt: &impl Print, asked: &str, date: u16) -> io::Result<()> {
+    print_line(rt, asked, refusal_read(date))?;
+    print_line(rt, "  written: ", refusal_written(date))
 }
 
 // At 200 samples a second two records fill a second: the refusals of the first, the second and the third that are inserted.
-fn print_inserts(o: Opening, rows: &mut [u32; 3 * WIDTH], seconds: &mut [u32; WIDTH]) {
+fn print_inserts(
+    rt: &impl Print,
+    o: Opening,
+    rows: &mut [u32; 3 * WIDTH],
+    seconds: &mut [u32; WIDTH],
+) -> io::Result<()> {
     let mut bytes = lister_case();
     print_line(
-        b"record 1 of a second: ",
+        rt,
+        "record 1 of a second: ",
         index_update::insert(o, EDITION_1985, &bytes, rows, seconds),
-    );
+    )?;
     set_word(&mut bytes, 2, 2);
     print_line(
-        b"record 2 of the second: ",
+        rt,
+        "record 2 of the second: ",
         insert_again(o, &bytes, rows, seconds),
-    );
+    )?;
     set_word(&mut bytes, 2, 3);
     print_line(
-        b"record 3 of the second: ",
+        rt,
+        "record 3 of the second: ",
         insert_again(o, &bytes, rows, seconds),
-    );
+    )
 }
 
 fn insert_again(
@@ -109,15 +115,21 @@ fn refusal_of_test(o: Opening, rows: &[u32; 3 * WIDTH], seconds: &[u32; WIDTH]) 
 }
 
 // The refusals of the calls after opening, with this value of an opening: record 1 and its second are those of `print_inserts`.
-fn print_later(o: Opening, rows: &mut [u32; 3 * WIDTH], seconds: &mut [u32; WIDTH]) {
+fn print_later(
+    rt: &impl Print,
+    o: Opening,
+    rows: &mut [u32; 3 * WIDTH],
+    seconds: &mut [u32; WIDTH],
+) -> io::Result<()> {
     let bytes = lister_case();
-    print_line(b"  insert: ", insert_again(o, &bytes, rows, seconds));
-    print_line(b"  remove: ", index_update::remove(o, 1, rows, seconds));
+    print_line(rt, "  insert: ", insert_again(o, &bytes, rows, seconds))?;
+    print_line(rt, "  remove: ", index_update::remove(o, 1, rows, seconds))?;
     print_line(
-        b"  query: ",
+        rt,
+        "  query: ",
         index_query::query(o, 43_200, rows, seconds).refusal,
-    );
-    print_line(b"  test: ", refusal_of_test(o, rows, seconds));
+    )?;
+    print_line(rt, "  test: ", refusal_of_test(o, rows, seconds))
 }
 
 // The value of an opening, but for its date: day 366 of a year.
@@ -137,20 +149,30 @@ fn holding_day_366(o: Opening, year: u64) -> Opening {
 }
 
 // A held day 366, in a year that has none and in one that has it but is not the records'.
-fn print_held(o: Opening, rows: &mut [u32; 3 * WIDTH], seconds: &mut [u32; WIDTH]) {
-    io::write_all(STDOUT_FILENO, b"day 366 of year 86 held:\n");
-    print_later(holding_day_366(o, 86), rows, seconds);
-    io::write_all(STDOUT_FILENO, b"day 366 of year 84 held:\n");
-    print_later(holding_day_366(o, 84), rows, seconds);
+fn print_held(
+    rt: &impl Print,
+    o: Opening,
+    rows: &mut [u32; 3 * WIDTH],
+    seconds: &mut [u32; WIDTH],
+) -> io::Result<()> {
+    println!(rt; "day 366 of year 86 held:")?;
+    print_later(rt, holding_day_366(o, 86), rows, seconds)?;
+    println!(rt; "day 366 of year 84 held:")?;
+    print_later(rt, holding_day_366(o, 84), rows, seconds)
 }
 
-fn print_calls(o: Opening, rows: &mut [u32; 3 * WIDTH], seconds: &mut [u32; WIDTH]) {
-    print_inserts(o, rows, seconds);
-    print_held(o, rows, seconds);
+fn print_calls(
+    rt: &impl Print,
+    o: Opening,
+    rows: &mut [u32; 3 * WIDTH],
+    seconds: &mut [u32; WIDTH],
+) -> io::Result<()> {
+    print_inserts(rt, o, rows, seconds)?;
+    print_held(rt, o, rows, seconds)
 }
 
 // An index of one second, from noon on, for the records 1 to 3.
-fn fill_a_second() {
+fn fill_a_second(rt: &impl Print) -> io::Result<()> {
     let pattern = lister_case();
     let mut rows = [7u32; 3 * WIDTH];
     let mut seconds = [7u32; WIDTH];
@@ -163,8 +185,8 @@ fn fill_a_second() {
         &mut rows,
         &mut seconds,
     ) {
-        OpenAnswer::Opened(o) => print_calls(o, &mut rows, &mut seconds),
-        OpenAnswer::Refused(n) => print_line(b"opening refused: ", n),
+        OpenAnswer::Opened(o) => print_calls(rt, o, &mut rows, &mut seconds),
+        OpenAnswer::Refused(n) => print_line(rt, "opening refused: ", n),
     }
 }
 
@@ -204,77 +226,83 @@ fn refusal_1992(edition: u64, hz: u16, words: u16) -> u8 {
     record::refusal_of(edition, &bytes[0..size])
 }
 
-fn print_length(hz: u16, words: u16) {
-    io::print_decimal(STDOUT_FILENO, hz as u64);
-    io::write_all(STDOUT_FILENO, b" a second, ");
-    io::print_decimal(STDOUT_FILENO, words as u64);
-    print_line(b" words: ", refusal_1992(EDITION_1992, hz, words));
+fn print_length(rt: &impl Print, hz: u16, words: u16) -> io::Result<()> {
+    let number = refusal_1992(EDITION_1992, hz, words);
+    println!(rt; "{hz} a second, {words} words: {number}")
 }
 
 // Table 1 of 1992: a record of each rate and its length.
-fn print_fast_lengths() {
-    print_length(50_000, 2083);
-    print_length(31_250, 1333);
-    print_length(25_000, 2083);
-    print_length(20_000, 2083);
-    print_length(15_625, 1333);
-    print_length(12_500, 1333);
-    print_length(10_000, 2083);
-    print_length(6_250, 1333);
-    print_length(5_000, 2083);
+fn print_fast_lengths(rt: &impl Print) -> io::Result<()> {
+    print_length(rt, 50_000, 2083)?;
+    print_length(rt, 31_250, 1333)?;
+    print_length(rt, 25_000, 2083)?;
+    print_length(rt, 20_000, 2083)?;
+    print_length(rt, 15_625, 1333)?;
+    print_length(rt, 12_500, 1333)?;
+    print_length(rt, 10_000, 2083)?;
+    print_length(rt, 6_250, 1333)?;
+    print_length(rt, 5_000, 2083)
 }
 
-fn print_slow_lengths() {
-    print_length(4_000, 2083);
-    print_length(3_125, 1333);
-    print_length(2_500, 1333);
-    print_length(2_000, 2083);
-    print_length(1_250, 1333);
-    print_length(1_000, 1083);
-    print_length(500, 583);
-    print_length(400, 483);
-    print_length(250, 333);
-    print_length(200, 283);
+fn print_slow_lengths(rt: &impl Print) -> io::Result<()> {
+    print_length(rt, 4_000, 2083)?;
+    print_length(rt, 3_125, 1333)?;
+    print_length(rt, 2_500, 1333)?;
+    print_length(rt, 2_000, 2083)?;
+    print_length(rt, 1_250, 1333)?;
+    print_length(rt, 1_000, 1083)?;
+    print_length(rt, 500, 583)?;
+    print_length(rt, 400, 483)?;
+    print_length(rt, 250, 333)?;
+    print_length(rt, 200, 283)
 }
 
 // A record of each edition under the other and under none, one that is too short, and lengths of another line.
-fn print_editions() {
+fn print_editions(rt: &impl Print) -> io::Result<()> {
     let of_1985 = lister_case();
     let of_1992 = case_1992(200, 283);
     print_line(
-        b"1985's under 1992: ",
+        rt,
+        "1985's under 1992: ",
         record::refusal_of(EDITION_1992, &of_1985),
-    );
-    print_line(b"1992's under 1985: ", refusal_1992(EDITION_1985, 200, 283));
-    print_line(b"1992's under 1986: ", refusal_1992(1986, 200, 283));
+    )?;
     print_line(
-        b"165 bytes: ",
+        rt,
+        "1992's under 1985: ",
+        refusal_1992(EDITION_1985, 200, 283),
+    )?;
+    print_line(rt, "1992's under 1986: ", refusal_1992(1986, 200, 283))?;
+    print_line(
+        rt,
+        "165 bytes: ",
         record::refusal_of(EDITION_1992, &of_1992[0..165]),
-    );
-    print_length(31_250, 2083);
-    print_length(200, 195);
-    print_length(8_000, 2083);
+    )?;
+    print_length(rt, 31_250, 2083)?;
+    print_length(rt, 200, 195)?;
+    print_length(rt, 8_000, 2083)
 }
 
-fn main() {
+fn main(rt: HostRuntime) -> io::Result<()> {
     let bytes = lister_case();
     print_line(
-        b"the lister's case: ",
+        &rt,
+        "the lister's case: ",
         record::refusal_of(EDITION_1985, &bytes),
-    );
+    )?;
     print_line(
-        b"79 bytes: ",
+        &rt,
+        "79 bytes: ",
         record::refusal_of(EDITION_1985, &bytes[0..79]),
-    );
-    print_date(b"day 366 of year 84: ", 84 * 512 + 366);
-    print_date(b"day 367 of year 84: ", 84 * 512 + 367);
-    print_date(b"day 366 of year 86: ", 86 * 512 + 366);
-    print_date(b"day 365 of year 86: ", 86 * 512 + 365);
-    print_date(b"day 366 of year 00: ", 366);
-    print_date(b"day 366 of year 99: ", 99 * 512 + 366);
-    fill_a_second();
-    io::write_all(STDOUT_FILENO, b"of 1992:\n");
-    print_fast_lengths();
-    print_slow_lengths();
-    print_editions();
+    )?;
+    print_date(&rt, "day 366 of year 84: ", 84 * 512 + 366)?;
+    print_date(&rt, "day 367 of year 84: ", 84 * 512 + 367)?;
+    print_date(&rt, "day 366 of year 86: ", 86 * 512 + 366)?;
+    print_date(&rt, "day 365 of year 86: ", 86 * 512 + 365)?;
+    print_date(&rt, "day 366 of year 00: ", 366)?;
+    print_date(&rt, "day 366 of year 99: ", 99 * 512 + 366)?;
+    fill_a_second(&rt)?;
+    println!(rt; "of 1992:")?;
+    print_fast_lengths(&rt)?;
+    print_slow_lengths(&rt)?;
+    print_editions(&rt)
 }
