@@ -10,8 +10,7 @@ use Rattle.header.specs.Edition.{is_unknown}
 use Rattle.reel.specs.Reel.{accepted, refused, words_in, rest_refusal, step_at}
 use Rattle.reel.proofs.Place.{step-unknown, step-finished, step-found, found-accepted, found-refused}
 use borrow.Author.Rules.{rules}
-use Rattle.reel.proofs.step_at.Statement.{statement}
-use Rattle.reel.proofs.step_at.Tie as tie
+use Rattle.reel.proofs.step_at.Goals as goal
 
 module _ (n : ℕ) (reel : List ℕ) (place : ℕ) (known : is_unknown n ≡ false) (h : place < length reel) where
   -- the part from the place on is all that is left
@@ -32,51 +31,28 @@ module _ (n : ℕ) (reel : List ℕ) (place : ℕ) (known : is_unknown n ≡ fal
       ap (λ (v : ℕ). accepted place (place + 2 * v)) (u ∙ ap words_in part)
       ∙ sym (step-found n reel place known h ∙ found-accepted n place (drop place reel) (sym e' ∙ none))
 
-returns : tie.Need-returns
+pub returns-then-is_unknown : goal.returns-then-is_unknown
+returns-then-is_unknown c =
+    let a = c.args in
+    sym (step-unknown a.edition a.reel.now a.place (sym c.is_unknown.ensures ∙ c.if-is_unknown.true))
+
+pub returns-then-reel-place : goal.returns-then-reel-place
+returns-then-reel-place c =
+    let a = c.args in
+    sym (step-finished a.edition a.reel.now a.place (sym c.is_unknown.ensures ∙ c.if-is_unknown.false)
+    c.if-reel-place.true)
+
+pub returns-then-refusal-ne0 : goal.returns-then-refusal-ne0
+returns-then-refusal-ne0 c =
+    let a = c.args in
+    at-refusal a.edition a.reel.now a.place (sym c.is_unknown.ensures ∙ c.if-is_unknown.false) c.if-reel-place.false
+    c.rest_refusal-refusal.result c.rest_refusal-refusal.ensures c.if-refusal-ne0.true
+
+pub returns : goal.returns
 returns c =
-    let u = c.before in
-    let a = u.before.before.args in
-    sym (step-unknown a.edition a.reel.now a.place (sym u.is-unknown.ensures ∙ c.if1.true))
+    let a = c.args in
+    at-record a.edition a.reel.now a.place (sym c.is_unknown.ensures ∙ c.if-is_unknown.false) c.if-reel-place.false
+    c.rest_refusal-refusal.result c.words_in-words.result c.rest_refusal-refusal.ensures c.if-refusal-ne0.false c.words_in-words.ensures.0
 
-returns-2 : tie.Need-returns-2
-returns-2 c =
-    let u = c.before.before in
-    let a = u.before.before.args in
-    sym (step-finished a.edition a.reel.now a.place (sym u.is-unknown.ensures ∙ c.before.if1.false)
-    c.if2.true)
-
-returns-3 : tie.Need-returns-3
-returns-3 c =
-    let k = c.before in
-    let l = k.before.before.before in
-    let u = l.before.before in
-    let a = u.before.before.args in
-    at-refusal a.edition a.reel.now a.place (sym u.is-unknown.ensures ∙ l.before.if1.false) l.if2.false
-    k.rest-refusal.result k.rest-refusal.ensures c.if3.true
-
-returns-4 : tie.Need-returns-4
-returns-4 c =
-    let k = c.before in
-    let w = k.before in
-    let l = w.before.before in
-    let u = l.before.before in
-    let a = u.before.before.args in
-    at-record a.edition a.reel.now a.place (sym u.is-unknown.ensures ∙ l.before.if1.false) l.if2.false
-    k.rest-refusal.result w.words-in.result k.rest-refusal.ensures c.if3.false w.words-in.ensures.0
-
-pub step-at-spec : {M : Type 1} → statement M
-step-at-spec =
-    tie.close
-    (tie.spec
-    (λ c κs. search rules)
-    returns
-    returns-2
-    (λ c. search rules)
-    (λ c. search rules)
-    (λ c. search rules)
-    (λ c κs. search rules)
-    (λ c κs. c.words-in.ensures)
-    returns-3
-    (λ c. search rules)
-    (λ c. search rules)
-    returns-4)
+pub rest_refusal-refusal-requires : goal.rest_refusal-refusal-requires
+rest_refusal-refusal-requires c = c.words_in-words.ensures
