@@ -3,8 +3,4 @@ pub mod Place
 pub mod Onward
 pub mod Records
 pub mod Reading
-pub mod Held
-pub mod Contracts
-pub mod Answering
-pub mod Promised
 pub mod Walk
