@@ -12,7 +12,7 @@ const COUNT_LIMIT: usize = 65_536;
 
 // A channel's total.
 #[repr(C)]
-#[derive(Drop)]
+#[derive(Clone, Copy)]
 pub struct Total {
     pub sum: i64,
     pub squares: u64,
