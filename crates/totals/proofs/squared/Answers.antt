@@ -2,29 +2,25 @@ use native.Mathlib.Omega.{arith}
 use mir.Syntax.{w64}
 use mir.Facts.{to_z-of_z, sfits_widen}
 use Rattle.totals.proofs.Bits.{widens, square, square-fits, byte-square}
-use Rattle.totals.proofs.squared.Statement.{statement}
-use Rattle.totals.proofs.squared.Tie as tie
+use Rattle.totals.proofs.squared.Goals as goal
 
-cast-wide : tie.Need-overflow-cast-wide
-cast-wide c = rw (to_z-of_z c.ranges.sample) (sfits_widen tt c.ranges.sample)
+pub overflow_cast-wide : goal.overflow_cast-wide
+overflow_cast-wide c = rw (to_z-of_z c.ranges.sample) (sfits_widen tt c.ranges.sample)
 
-mul-result : tie.Need-overflow-mul-result
-mul-result c =
+pub overflow_mul-result : goal.overflow_mul-result
+overflow_mul-result c =
     let f = c.ranges.sample in
     rw (widens w64 (sfits_widen tt f) f) (square-fits f)
 
-cast-result : tie.Need-overflow-cast-result
-cast-result c =
+pub overflow_cast-result : goal.overflow_cast-result
+overflow_cast-result c =
     let f = c.ranges.sample in
     rw (widens w64 (sfits_widen tt f) f, to_z-of_z (square-fits f), square c.args.sample) (
       tt,
       record { fits = omega (arith, byte-square f) },
     )
 
-returns : tie.Need-returns
+pub returns : goal.returns
 returns c =
     let f = c.ranges.sample in
     rw (widens w64 (sfits_widen tt f) f, to_z-of_z (square-fits f), square c.args.sample)
-
-pub squared-spec : {M : Type 1} → statement M
-squared-spec = tie.close (tie.spec cast-wide mul-result cast-result returns)
