@@ -3,14 +3,13 @@
 use Prim.Native.Nat.{ℕ, ◌≤◌, ◌<◌}
 use mathlib.Core.Path.{◌≡◌, ap, ◌∙◌}
 use mathlib.Core.Bool.{false}
-use mathlib.Core.List.{List, [], ◌∷◌, ◌++◌}
+use mathlib.Core.List.{List, ◌++◌}
 use native.Mathlib.Omega.{arith}
 use lib.Dec.{ltb}
 use lib.ListN.{length, get_or, drop}
 use borrow.Author.Tests.{le-ltb}
 use Rattle.lists.proofs.Truth.{holds}
 use Rattle.answers.specs.Answer.{accepted}
-use Rattle.answers.specs.Refusal.{◌when◌, first, ◌then◌}
 use Rattle.header.proofs.Sound.{of-editions}
 use Rattle.record.specs.Record.{record_refusal, longest_record}
 use Rattle.record.proofs.Accepted.{record-facts, length-bounds}

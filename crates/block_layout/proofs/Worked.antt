@@ -1,6 +1,6 @@
 -- Sizes worked by hand: the blocks of a record, and how much of the last one is used. FORMAT, "Cases worked by hand". And that of
 -- the longest export, for which a buffer of 4,608 bytes is enough. Assumes nothing.
-use Prim.Native.Nat.{ℕ, ◌*◌, ◌≤◌}
+use Prim.Native.Nat.{ℕ, ◌≤◌}
 use mathlib.Core.Path.{◌≡◌, refl}
 use mathlib.Core.List.{List}
 use native.Mathlib.Omega.{arith}
