@@ -12,7 +12,6 @@ use lib.ListN.{get_or, length}
 use borrow.Author.Tests.{le-leb, lt-leb, leb-false, not-false}
 use Rattle.lists.proofs.Order.{le-or-lt}
 use Rattle.answers.specs.Answer.{accepted, unless}
-use Rattle.record.specs.Record.{record_refusal}
 use Rattle.answers.specs.Refusal.{Check, ◌when◌, first, ◌then◌}
 use Rattle.answers.proofs.Refusals.{then-none, then-zero, none-applies}
 use Rattle.index_model.specs.declared.Opening.{Opening}

@@ -9,7 +9,6 @@ use lib.Dec.{T, eqb, ltb, leb, leb→le, ltb→lt}
 use lib.ListN.{length}
 use borrow.Author.Tests.{eqb-true, eqb-false, ltb-false, le-ltb, le-leb, lt-ltb, not-false}
 use Rattle.lists.proofs.Truth.{left, right, held, or-false}
-use Rattle.fields.specs.Field.{value_of}
 use Rattle.header.proofs.Sound.{of-editions}
 use Rattle.answers.specs.Refusal.{◌when◌}
 use Rattle.answers.proofs.Refusals.{none-applies}

@@ -20,7 +20,7 @@ use Rattle.answers.specs.Refusal.{◌when◌, first}
 use Rattle.answers.proofs.Refusals.{no_check, none-applies, then-zero, unless-none, cond-none}
 use Rattle.index_model.specs.Records.{Record, refusal_of}
 use Rattle.index_model.specs.declared.Opening.{Opening}
-use Rattle.index_model.specs.Cells.{width, cell, is_greatest}
+use Rattle.index_model.specs.Cells.{width, is_greatest}
 use Rattle.index_model.specs.Buffers.{Buffers}
 use Rattle.index_model.specs.Opening.{
   limits_wrong,

@@ -1,6 +1,6 @@
 -- Opening, what it returns, and what that decides without a look at any cell: 13 to 17. FORMAT, "The index of seconds",
 -- "Refusal numbers".
-use Rattle.std.specs.Prelude.{ℕ, ◌+◌, ◌-◌, ◌*◌, Bool, cond, not, ◌&&◌, ◌||◌, List, [], ◌∷◌, eqb, ltb, leb, length}
+use Rattle.std.specs.Prelude.{ℕ, ◌+◌, ◌-◌, ◌*◌, Bool, cond, not, ◌&&◌, ◌||◌, [], ◌∷◌, eqb, ltb, leb, length}
 use Rattle.lists.specs.Fill.{over}
 use Rattle.fields.specs.Field.{value_of}
 use Rattle.header.specs.Rows.{tape_number, spacecraft, spc, year, day}
