@@ -2,8 +2,6 @@ pub mod Line
 pub mod Shortest
 pub mod Longest
 pub mod TextFrom
-pub mod Lent
-pub mod Called
 pub mod Answers
 pub mod Cases
 pub mod Enough
