@@ -5,7 +5,7 @@ use mathlib.Core.Logic.{◌⊎◌}
 use lib.Dec.{T}
 use Rattle.sample_rates.specs.Rates.{no_rate, sound_lines}
 use Rattle.sample_rates.proofs.Lines.{SoundLine, in_lines, sound-1985, sound-1992}
-use Rattle.header.specs.Edition.{edition_of, layout_of, rates_of}
+use Rattle.header.specs.Edition.{layout_of, rates_of}
 use Rattle.header.proofs.Sound.{of-editions}
 use Rattle.editions.specs.Rates.{sample_rate_of}
 

@@ -1,5 +1,4 @@
 use Rattle.bits.proofs.Reading.{answer}
-use borrow.Author.Rules.{rules}
 use Rattle.bits.proofs.cut_field.Goals as goal
 
 pub returns : goal.returns

@@ -1,7 +1,6 @@
 use Prim.Native.Nat.{ℕ}
 use mathlib.Core.Path.{ap, ◌∙◌}
 use Rattle.bits.specs.Decimal.{digits}
-use borrow.Author.Rules.{rules}
 use Rattle.bits.proofs.decimal_digits.Goals as goal
 
 pub returns : goal.returns

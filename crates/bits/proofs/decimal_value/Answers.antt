@@ -1,7 +1,6 @@
 use Prim.Native.Nat.{ℕ}
 use mathlib.Core.Path.{ap, ◌∙◌}
 use Rattle.bits.specs.Decimal.{decimal_value}
-use borrow.Author.Rules.{rules}
 use Rattle.bits.proofs.decimal_value.Goals as goal
 
 pub returns : goal.returns

@@ -2,7 +2,6 @@ use Prim.Native.Nat.{ℕ, ◌%◌}
 use mathlib.Core.Path.{ap, ◌∙◌}
 use lib.Dec.{eqb}
 use lib.Bits.{bit_and}
-use borrow.Author.Rules.{rules}
 use Rattle.bits.specs.Decimal.{most_digits}
 use Rattle.bits.proofs.AllDigits.{ones, above, all_digits}
 use Rattle.bits.proofs.digits_good.Goals as goal

@@ -1,8 +1,7 @@
 -- The loop over the digits from the most significant on: the invariant says what the digits so far give.
-use Rattle.bits.specs.Decimal.{decimal_value}
 use Rattle.bits.proofs.Decimal.{digits-none, digits_more, digits-whole, decimal-small}
-use mathlib.Core.Path.{◌≡◌, refl, ◌∙◌, ap}
-use Prim.Native.Nat.{ℕ, ◌≤◌, ◌-◌, ◌*◌, ◌^◌, ◌/◌, ◌%◌, ◌+◌}
+use mathlib.Core.Path.{refl, ◌∙◌}
+use Prim.Native.Nat.{◌-◌, ◌*◌, ◌^◌, ◌/◌, ◌%◌, ◌+◌}
 use native.Mathlib.Omega.{arith}
 use borrow.Author.Rules.{rules}
 use Rattle.bits.proofs.digits_value.Goals as goal

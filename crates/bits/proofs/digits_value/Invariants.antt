@@ -1,10 +1,7 @@
 -- The loop over the digits from the most significant on: the invariant says what the digits so far give.
 use Rattle.bits.specs.Decimal.{decimal_value}
-use Rattle.bits.proofs.Decimal.{digits-none, digits_more, digits-whole, decimal-small}
-use mathlib.Core.Path.{◌≡◌, refl, ◌∙◌, ap}
-use Prim.Native.Nat.{ℕ, ◌≤◌, ◌-◌, ◌*◌, ◌^◌, ◌/◌, ◌%◌, ◌+◌}
-use native.Mathlib.Omega.{arith}
-use borrow.Author.Rules.{rules}
+use mathlib.Core.Path.{◌≡◌}
+use Prim.Native.Nat.{◌≤◌, ◌-◌, ◌*◌, ◌^◌, ◌/◌}
 use Rattle.bits.proofs.digits_value.Given as goal
 
 abbrev pub invariant-loop-left : goal.invariant-loop-left

@@ -1,11 +1,10 @@
 -- a number of 64 bits has no more bits than 64 or more
-use Prim.Native.Nat.{ℕ, ◌^◌}
+use Prim.Native.Nat.{◌^◌}
 use mathlib.Core.Path.{ap, sym}
 use native.Mathlib.Nat.{lt_of_lt_of_le}
 use lib.Dec.{ltb}
 use lib.Pow.{pow_mono}
 use borrow.Author.Tests.{lt-ltb}
-use borrow.Author.Rules.{rules}
 use Rattle.bits.proofs.fits_bits.Goals as goal
 
 pub returns-then-width-lt64 : goal.returns-then-width-lt64

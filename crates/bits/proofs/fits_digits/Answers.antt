@@ -1,5 +1,5 @@
 -- Each division by ten takes a digit away; a number of no more digits than were taken is then 0.
-use Prim.Native.Nat.{ℕ, ◌-◌, ◌*◌, ◌/◌, ◌^◌, ◌≤◌}
+use Prim.Native.Nat.{ℕ, ◌/◌, ◌^◌}
 use mathlib.Core.Path.{◌≡◌, sym, ap, ◌∙◌}
 use native.Mathlib.Nat.{div-one, div-div-eq-div-mul}
 use lib.Dec.{eqb}

@@ -1,10 +1,6 @@
 -- Each division by ten takes a digit away; a number of no more digits than were taken is then 0.
-use Prim.Native.Nat.{ℕ, ◌-◌, ◌*◌, ◌/◌, ◌^◌, ◌≤◌}
-use mathlib.Core.Path.{◌≡◌, sym, ap, ◌∙◌}
-use native.Mathlib.Nat.{div-one, div-div-eq-div-mul}
-use lib.Dec.{eqb}
-use Rattle.bits.proofs.Decimal.{ten-more, none_left}
-use borrow.Author.Rules.{rules}
+use Prim.Native.Nat.{◌-◌, ◌/◌, ◌^◌, ◌≤◌}
+use mathlib.Core.Path.{◌≡◌}
 use Rattle.bits.proofs.fits_digits.Given as goal
 
 abbrev pub invariant-loop-k : goal.invariant-loop-k

@@ -2,7 +2,6 @@
 use native.Mathlib.Omega.{arith}
 use Rattle.bits.proofs.Writing.{Mixed}
 use Rattle.bits.proofs.Writing as writes
-use borrow.Author.Rules.{rules}
 use Rattle.bits.proofs.mixed.Goals as goal
 use Rattle.bits.proofs.mixed.Goals.{After-two_to-t}
 

@@ -1,4 +1,3 @@
-use native.Mathlib.Omega.{arith}
 use Rattle.bits.proofs.Writing.{done}
 use borrow.Author.Rules.{rules}
 use Rattle.bits.proofs.put_field.Goals as goal

@@ -1,7 +1,6 @@
 use Prim.Native.Nat.{ℕ, ◌^◌, ◌<◌}
 use mathlib.Core.Path.{◌≡◌, subst}
 use Rattle.bits.specs.Bits.{get_bits}
-use borrow.Author.Rules.{rules}
 use Rattle.bits.proofs.read_bits.Goals as goal
 
 pub returns : goal.returns

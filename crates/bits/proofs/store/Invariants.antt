@@ -1,11 +1,7 @@
 -- The loop that stores the bytes of a number, the last first: the invariant is `Stored`, and the part of the number that is left.
-use mathlib.Core.Path.{◌≡◌, ◌∙◌, ap, sym, subst}
-use mathlib.Core.List.{List}
-use Prim.Native.Nat.{ℕ, ◌≤◌, ◌-◌, ◌+◌, ◌*◌, ◌/◌, ◌%◌, ◌^◌}
-use native.Mathlib.Omega.{arith}
-use borrow.Author.Rules.{rules}
+use mathlib.Core.Path.{◌≡◌}
+use Prim.Native.Nat.{◌≤◌, ◌-◌, ◌*◌, ◌/◌, ◌^◌}
 use Rattle.bits.specs.Steps.{Stored}
-use Rattle.bits.proofs.Writing.{stored-none, stored_more, rest-whole, rest-less}
 use Rattle.bits.proofs.store.Given as goal
 
 abbrev pub invariant-loop-k : goal.invariant-loop-k

@@ -2,7 +2,6 @@ use mathlib.Core.Path.{◌≡◌, sym, subst, ◌∙◌, ap}
 use Prim.Native.Nat.{◌*◌, ◌<◌, ℕ, ◌%◌, ◌^◌}
 use native.Mathlib.Nat.{mod-eq_of_lt, one-mul}
 use lib.Pow.{pow-lt, pow_pos}
-use borrow.Author.Rules.{rules}
 use Rattle.bits.proofs.two_to.Goals as goal
 
 pub returns : goal.returns

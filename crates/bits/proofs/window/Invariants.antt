@@ -1,11 +1,7 @@
 -- The loop over the bytes of a window: the invariant says the number made so far.
-use mathlib.Core.Path.{◌≡◌, sym, ◌∙◌, ap}
-use Prim.Native.Nat.{ℕ, ◌≤◌, ◌+◌, ◌*◌, ◌-◌}
-use lib.ListN.{get_or}
-use native.Mathlib.Omega.{arith}
-use borrow.Author.Rules.{rules}
+use mathlib.Core.Path.{◌≡◌}
+use Prim.Native.Nat.{◌≤◌, ◌*◌, ◌-◌}
 use Rattle.bits.specs.Bits.{get_bits}
-use Rattle.bits.proofs.Reading.{more, within, none}
 use Rattle.bits.proofs.window.Given as goal
 
 abbrev pub invariant-loop-k : goal.invariant-loop-k

@@ -1,7 +1,6 @@
 use Prim.Native.Nat.{ℕ}
 use mathlib.Core.Path.{ap, ◌∙◌}
 use Rattle.bits.specs.Bits.{set_bits}
-use borrow.Author.Rules.{rules}
 use Rattle.bits.proofs.write_bits.Goals as goal
 
 pub returns : goal.returns

@@ -1,6 +1,3 @@
-use mathlib.Core.Path.{ap, sym}
-use Prim.Native.Nat.{ℕ}
-use borrow.Author.Rules.{rules}
 use Rattle.editions.proofs.line_out.Goals as goal
 
 pub returns : goal.returns

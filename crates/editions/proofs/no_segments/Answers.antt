@@ -1,8 +1,7 @@
-use Prim.Native.Nat.{ℕ}
-use mathlib.Core.Path.{◌≡◌, ap, sym, refl, ◌∙◌}
+use mathlib.Core.Path.{◌≡◌, refl}
 use mathlib.Core.Bool.{Bool, true, false, cond}
 use lib.Dec.{eqb}
-use Rattle.header.specs.Edition.{Edition, edition1985, edition1992, edition_of, no_segments}
+use Rattle.header.specs.Edition.{edition1985, edition1992, edition_of}
 use Rattle.editions.proofs.no_segments.Goals as goal
 
 by-test : (t : Bool) → t ≡ eqb (cond t edition1992 edition1985).layout.monitor-words 0

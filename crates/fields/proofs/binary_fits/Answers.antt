@@ -3,7 +3,6 @@ use mathlib.Core.Bool.{Bool, not, ◌&&◌, ◌||◌}
 use Rattle.lists.proofs.Truth.{held}
 use Rattle.fields.specs.Field.{is_decimal, binary_fits, fits_binary}
 use Rattle.fields.proofs.OneField.{is-readable}
-use borrow.Author.Rules.{rules}
 use Rattle.fields.proofs.binary_fits.Goals as goal
 
 pub bits_fit-requires : goal.bits_fit-requires

@@ -5,7 +5,6 @@ use lib.Dec.{ltb}
 use Rattle.signed.specs.Signed.{signed_fits}
 use Rattle.fields.specs.Field.{bit_width}
 use Rattle.fields.proofs.Steps.{fits_signed}
-use borrow.Author.Rules.{rules}
 use Rattle.fields.proofs.bits_fit.Goals as goal
 
 pub returns-then-signed : goal.returns-then-signed

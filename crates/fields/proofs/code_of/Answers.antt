@@ -1,6 +1,5 @@
 use mathlib.Core.Path.{◌∙◌}
 use Rattle.fields.proofs.Steps.{code-decimal, code-binary}
-use borrow.Author.Rules.{rules}
 use Rattle.fields.proofs.code_of.Goals as goal
 
 pub returns-then-decimal : goal.returns-then-decimal

@@ -1,6 +1,5 @@
 use mathlib.Core.Bool.{not, ◌||◌}
 use Rattle.fields.specs.Field.{is_decimal}
-use borrow.Author.Rules.{rules}
 use Rattle.fields.proofs.decimal_fits.Goals as goal
 
 pub returns : goal.returns

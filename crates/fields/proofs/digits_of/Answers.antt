@@ -1,6 +1,5 @@
 use mathlib.Core.Path.{◌∙◌}
 use Rattle.fields.proofs.Steps.{digits_decimal, digits-binary}
-use borrow.Author.Rules.{rules}
 use Rattle.fields.proofs.digits_of.Goals as goal
 
 pub returns-then-decimal : goal.returns-then-decimal

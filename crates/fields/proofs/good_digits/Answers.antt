@@ -3,7 +3,6 @@ use mathlib.Core.Bool.{Bool, not, ◌||◌}
 use Rattle.lists.proofs.Truth.{held}
 use Rattle.fields.specs.Field.{digits_good}
 use Rattle.fields.proofs.OneField.{is-readable}
-use borrow.Author.Rules.{rules}
 use Rattle.fields.proofs.good_digits.Goals as goal
 
 pub digits_of-requires : goal.digits_of-requires

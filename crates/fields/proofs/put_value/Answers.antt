@@ -1,6 +1,5 @@
 use mathlib.Core.Path.{◌∙◌}
 use Rattle.fields.proofs.Steps.{written}
-use borrow.Author.Rules.{rules}
 use Rattle.fields.proofs.put_value.Goals as goal
 
 pub returns : goal.returns

@@ -3,7 +3,6 @@ use mathlib.Core.Bool.{Bool, cond}
 use Rattle.lists.proofs.Truth.{held}
 use Rattle.fields.specs.Field.{value_of}
 use Rattle.fields.proofs.OneField.{is-readable}
-use borrow.Author.Rules.{rules}
 use Rattle.fields.proofs.read_field.Goals as goal
 
 pub value_of-requires : goal.value_of-requires

@@ -1,6 +1,5 @@
 use mathlib.Core.Path.{◌∙◌}
 use Rattle.fields.proofs.Steps.{read-decimal, read-signed, read-binary}
-use borrow.Author.Rules.{rules}
 use Rattle.fields.proofs.value_of.Goals as goal
 
 pub returns-then-decimal : goal.returns-then-decimal

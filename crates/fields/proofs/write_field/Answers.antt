@@ -3,7 +3,6 @@ use mathlib.Core.Bool.{Bool, cond}
 use Rattle.lists.proofs.Truth.{held}
 use Rattle.fields.specs.Field.{with_value}
 use Rattle.fields.proofs.OneField.{is-readable}
-use borrow.Author.Rules.{rules}
 use Rattle.fields.proofs.write_field.Goals as goal
 
 pub put_value-requires : goal.put_value-requires

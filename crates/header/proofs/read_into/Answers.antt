@@ -1,7 +1,6 @@
 -- What the array held does not matter: every one of its places gets a value.
 use mathlib.Core.Path.{sym, ◌∙◌}
 use mathlib.Core.List.{◌++◌}
-use borrow.Author.Rules.{rules}
 use Rattle.header_parts.proofs.Laws.{listed, then-placed, whole}
 use Rattle.header.specs.Format.{common1, common2, common3, common4, common5, field_count}
 use Rattle.header.proofs.Sound.{own-listed}

@@ -2,7 +2,6 @@ use mathlib.Core.Path.{◌∙◌, ap}
 use Prim.Native.Nat.{ℕ, ◌+◌}
 use mathlib.Core.List.{List}
 use lib.ListN.{get_or, set}
-use borrow.Author.Rules.{rules}
 use Rattle.header_parts.proofs.place.Goals as goal
 
 pub returns : goal.returns

@@ -1,9 +1,7 @@
-use mathlib.Core.Path.{◌≡◌, refl}
+use mathlib.Core.Path.{◌≡◌}
 use Prim.Native.Nat.{◌≤◌, ◌-◌, min}
-use native.Mathlib.Omega.{arith}
 use lib.ListN.{length, get_or}
-use borrow.Author.Rules.{rules}
-use Rattle.lists.proofs.Fill.{Filled, filled_none, filled_more, filled_at}
+use Rattle.lists.proofs.Fill.{Filled}
 use Rattle.lists.proofs.copy.Given as goal
 
 abbrev pub invariant-loop-k : goal.invariant-loop-k

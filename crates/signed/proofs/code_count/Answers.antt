@@ -3,7 +3,6 @@ use Prim.Native.Nat.{◌*◌, ◌<◌, ℕ, ◌%◌, ◌^◌}
 use native.Mathlib.Nat.{mod-eq_of_lt, one-mul}
 use native.Mathlib.Omega.{arith}
 use lib.Pow.{pow-lt, pow_pos}
-use borrow.Author.Rules.{rules}
 use Rattle.signed.proofs.code_count.Goals as goal
 
 pub returns : goal.returns

@@ -11,6 +11,7 @@ use Rattle.signed.proofs.value_of.Goals as goal
 
 shown : (code p v w : ℕ) → p ≡ 2 ^ v → v ≡ w → value_by p (2 ^ 64) (code % p) ≡ signed_value w (code % 2 ^ w)
 shown code p v w e f = ap (λ (z : ℕ). value_by z (2 ^ 64) (code % z)) e ∙ ap (λ (z : ℕ). signed_value z (code % 2 ^ z)) f
+
 few : (p v : ℕ) → p ≡ 2 ^ v → v ≤ widest → p < 2 ^ 64
 few p v e h = subst (λ (z : ℕ). z < 2 ^ 64) (sym e) (few-codes v h)
 
