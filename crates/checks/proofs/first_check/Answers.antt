@@ -1,7 +1,6 @@
 use mathlib.Core.Path.{◌∙◌}
 use mathlib.Core.Bool.{cond, not, ◌&&◌, ◌||◌}
 use lib.Dec.{eqb, ltb}
-use borrow.Author.Rules.{rules}
 use Rattle.checks.specs.Checks.{last_ms}
 use Rattle.checks.proofs.first_check.Goals as goal
 

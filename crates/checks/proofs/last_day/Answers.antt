@@ -1,4 +1,3 @@
-
 use Rattle.checks.proofs.last_day.Goals as goal
 
 pub returns-then-leap : goal.returns-then-leap

@@ -9,7 +9,7 @@ use Rattle.fields.specs.Table.{all_fit}
 use Rattle.header_parts.specs.Parts.{cells, rows_fit}
 use Rattle.header_parts.proofs.Laws.{whole}
 use Rattle.header.specs.Format.{common1, common2, common3, common4, common5, field_count}
-use Rattle.header.specs.Edition.{Edition, edition_of, fields_of}
+use Rattle.header.specs.Edition.{edition_of, fields_of}
 use Rattle.header.proofs.Sound.{of-editions}
 use Rattle.header_fits.proofs.binaries_fit.Goals as goal
 

@@ -1,7 +1,6 @@
 -- Only the three decimal fields are judged: of every other row the test computes to true.
 use mathlib.Core.Path.{sym, ◌∙◌}
 use mathlib.Core.Bool.{◌&&◌}
-use borrow.Author.Rules.{rules}
 use Rattle.lists.proofs.Truth.{and-true}
 use Rattle.header_fits.proofs.decimals_fit.Goals as goal
 

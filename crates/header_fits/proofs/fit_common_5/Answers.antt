@@ -1,4 +1,3 @@
-use borrow.Author.Rules.{rules}
 use Rattle.header_fits.proofs.fit_common_5.Goals as goal
 
 pub returns : goal.returns

@@ -1,4 +1,3 @@
-use borrow.Author.Rules.{rules}
 use Rattle.header_fits.proofs.fit_own_1985.Goals as goal
 
 pub returns : goal.returns

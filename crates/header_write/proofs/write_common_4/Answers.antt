@@ -2,7 +2,6 @@ use mathlib.Core.Path.{ap, ◌∙◌}
 use Prim.Native.Nat.{ℕ, ◌+◌}
 use mathlib.Core.List.{List}
 use lib.ListN.{length, get_or}
-use borrow.Author.Rules.{rules}
 use Rattle.fields.specs.Field.{none, with_value}
 use Rattle.fields.proofs.Tables.{length-write}
 use Rattle.header_parts.specs.Parts.{cells}

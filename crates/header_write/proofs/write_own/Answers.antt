@@ -1,5 +1,4 @@
 use mathlib.Core.Path.{ap, sym, ◌∙◌}
-use borrow.Author.Rules.{rules}
 use Rattle.fields.specs.Table.{write_all}
 use Rattle.header_parts.specs.Parts.{cells}
 use Rattle.header.specs.Edition.{Edition}

@@ -5,7 +5,6 @@ use Rattle.answers.specs.Refusal.{◌when◌, first, ◌then◌}
 use Rattle.checks.specs.declared.Judged.{Judged}
 use Rattle.checks.specs.Checks.{checks}
 use Rattle.record.specs.Record.{write_refusal}
-use borrow.Author.Rules.{rules}
 use Rattle.record.proofs.judge_writing.Goals as goal
 
 pub returns : goal.returns

@@ -1,6 +1,5 @@
 use mathlib.Core.Path.{◌∙◌}
 use lib.ListN.{length}
-use borrow.Author.Rules.{rules}
 use Rattle.header.proofs.Sound.{digits-common}
 use Rattle.record.proofs.judged.Goals as goal
 

@@ -1,9 +1,6 @@
 use mathlib.Core.Path.{◌∙◌}
 use lib.ListN.{get_or}
 use borrow.Author.Rules.{rules}
-use Rattle.fields.specs.Table.{value_in}
-use Rattle.header.specs.Rows as row
-use Rattle.header.specs.Edition.{fields_of}
 use Rattle.header.proofs.Sound.{sample-rate-placed, sync-placed, decimals-common}
 use Rattle.record.proofs.judged_values.Goals as goal
 

@@ -1,7 +1,6 @@
 use mathlib.Core.Path.{ap, ◌∙◌}
 use Rattle.editions.specs.Rates.{sample_rate_of}
 use Rattle.record.specs.Stretch.{record_rate}
-use borrow.Author.Rules.{rules}
 use Rattle.record.proofs.rate_of.Goals as goal
 
 pub returns : goal.returns

@@ -7,7 +7,6 @@ use Rattle.answers.proofs.Refusals.{told_none, unless-none, unless-some}
 use Rattle.fields.specs.Table.{read_all}
 use Rattle.header.specs.Edition.{fields_of}
 use Rattle.record.specs.Record.{record_refusal, no_values, header_answer}
-use borrow.Author.Rules.{rules}
 use Rattle.record.proofs.read_header.Goals as goal
 
 pub returns-then-refusal-eq0 : goal.returns-then-refusal-eq0

@@ -9,11 +9,11 @@ use Rattle.answers.specs.Refusal.{first}
 use Rattle.checks.specs.declared.Judged.{Judged}
 use Rattle.checks.specs.Checks.{checks}
 use Rattle.record.specs.Record.{record_refusal}
-use borrow.Author.Rules.{rules}
 use Rattle.record.proofs.refusal_of.Goals as goal
 
 applied : (t : Bool) (n m : ℕ) → t ≡ true → n ≡ cond t n m
 applied t n m e = sym (ap (λ (s : Bool). cond s n m) e)
+
 passed : (t : Bool) (n m k : ℕ) → t ≡ false → k ≡ m → k ≡ cond t n m
 passed t n m k e f = f ∙ sym (ap (λ (s : Bool). cond s n m) e)
 

@@ -1,7 +1,6 @@
 use Prim.Native.Nat.{ℕ, ◌≤◌, ◌<◌}
 use mathlib.Core.Path.{sym, ap, subst, ◌∙◌}
 use lib.ListN.{length}
-use borrow.Author.Rules.{rules}
 use Rattle.answers.specs.Refusal.{first}
 use Rattle.checks.specs.declared.Judged.{Judged}
 use Rattle.checks.specs.Checks.{checks}

@@ -2,7 +2,6 @@ use Prim.Native.Nat.{ℕ, ◌≤◌}
 use mathlib.Core.Path.{ap, sym, subst}
 use Rattle.sample_rates.specs.Rates.{samples_per_record, most_samples}
 use Rattle.record.proofs.Count.{count_small}
-use borrow.Author.Rules.{rules}
 use Rattle.record.proofs.sample_count.Goals as goal
 
 pub returns : goal.returns

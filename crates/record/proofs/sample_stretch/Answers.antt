@@ -4,7 +4,6 @@ use lib.ListN.{length, take, drop}
 use Rattle.lists.proofs.Parts.{clipped}
 use Rattle.header.specs.Edition.{header_bytes}
 use Rattle.record.specs.Stretch.{sample_count, stretch_of}
-use borrow.Author.Rules.{rules}
 use Rattle.record.proofs.sample_stretch.Goals as goal
 
 pub returns : goal.returns

@@ -1,5 +1,4 @@
 use mathlib.Core.Path.{ap, sym, ◌∙◌}
-use borrow.Author.Rules.{rules}
 use Rattle.fields.specs.Field.{value_of}
 use Rattle.header.specs.Edition.{Edition}
 use Rattle.header.proofs.Sound.{is-1992, is-1985}
