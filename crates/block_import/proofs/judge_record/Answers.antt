@@ -1,0 +1,36 @@
+use mathlib.Core.Path.{◌≡◌, ap, sym, ◌∙◌}
+use Prim.Native.Nat.{ℕ, ◌+◌, ◌-◌, ◌<◌}
+use native.Mathlib.Omega.{arith}
+use lib.ListN.{get_or, take, drop, length-take}
+use Rattle.record.specs.Record.{front_refusal}
+use Rattle.record.proofs.Front.{front-enough}
+use Rattle.block_check.specs.Check.{block_bytes, payload_bytes}
+use Rattle.block_layout.specs.Carried.{block_at, length_in, carried_of}
+use Rattle.block_layout.proofs.Carrying.{some, payload-inside, carried-front}
+use Rattle.block_import.proofs.judge_record.Goals as goal
+use Rattle.block_import.proofs.judge_record.Goals.{After-word_at-end}
+
+-- the payload length of block 0, as it is read
+size : (c : After-word_at-end) → c.word_at-end.result ≡ length_in (block_at c.args.blocks.now 0)
+unfolding block_at
+size c = c.word_at-end.ensures.0
+
+pub slice_bounds-refusal_of_front-end : goal.slice_bounds-refusal_of_front-end
+slice_bounds-refusal_of_front-end c =
+    let s = c.args.blocks.now in
+    let small : (j : ℕ) → get_or s j 0 < 256 = λ j. omega (arith, c.type_inv.blocks j) in
+    let least = some s small c.requires.0 c.requires.1 in
+    omega (arith, size (goal.at.slice_bounds-refusal_of_front-end c).After-word_at-end, least, length-take block_bytes s, (payload-inside s small c.requires.0 c.requires.1 0 least).0)
+
+pub returns : goal.returns
+unfolding block_at
+returns c =
+    let a = c.args in
+    let s = a.blocks.now in
+    let e : 6 + c.word_at-end.result - 6 ≡ length_in (block_at s 0) = omega (arith, size (goal.at.returns c).After-word_at-end) in
+    let front = ap (λ (m : ℕ). take m (drop 6 (block_at s 0))) e ∙ sym (carried-front s (λ j. omega (arith, c.type_inv.blocks j)) c.requires.0 c.requires.1) in
+    c.refusal_of_front.ensures ∙ (λ t. front_refusal a.edition (front t) (c.requires.2 t))
+    ∙ sym (front-enough a.edition payload_bytes (carried_of s) (omega arith))
+
+pub slice_bounds-first-end : goal.slice_bounds-first-end
+slice_bounds-first-end c = omega (arith, some c.args.blocks.now (λ j. omega (arith, c.type_inv.blocks j)) c.requires.0 c.requires.1)
