@@ -1,7 +1,7 @@
 -- An opening by its refusal: its answer and the buffers that it leaves. Assumes nothing.
 use Prim.Native.Nat.{ℕ}
 use mathlib.Core.Path.{◌≡◌, ap, sym, ◌∙◌}
-use mathlib.Core.List.{List, [], ◌∷◌}
+use mathlib.Core.List.{[], ◌∷◌}
 use Rattle.answers.specs.Answer.{accepted, refused}
 use Rattle.answers.specs.Refusal.{◌when◌, first, ◌then◌}
 use Rattle.answers.proofs.Refusals.{unless-none, unless-some, cond-some}

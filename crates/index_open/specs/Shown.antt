@@ -3,7 +3,6 @@ use Rattle.answers.specs.Answer.{Answer, accepted, refused}
 use Rattle.index_model.specs.declared.Opening.{Opening}
 use Rattle.index_model.specs.Opening.{no_opening}
 use Rattle.index_open.specs.declared.OpenAnswer.{OpenAnswer}
-use Rattle.index_open.specs.declared.OpenAnswer.TheVariants as OpenAnswer
 
 abbrev pub shown_open : OpenAnswer → Answer Opening
 shown_open (OpenAnswer.Opened o) = accepted o

@@ -4,7 +4,6 @@ use Rattle.answers.specs.Answer.{Answer, accepted, refused, told}
 use Rattle.index_model.specs.Second.{SecondTotals}
 use Rattle.index_query.specs.declared.SecondAnswer.{SecondAnswer}
 use Rattle.index_query.specs.declared.ConsistencyAnswer.{ConsistencyAnswer}
-use Rattle.index_query.specs.declared.ConsistencyAnswer.TheVariants as ConsistencyAnswer
 
 -- the number is the field `refusal`, the values are the other fields
 abbrev pub shown_second : SecondAnswer → Answer SecondTotals
