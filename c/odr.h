@@ -1,4 +1,4 @@
-/* The library for C and C++: target/staticlib/libodr.a, made by `rt staticlib odr`. The functions are those of crates/odr, each
+/* The library for C and C++: target/staticlib/libodr.a, made by tests/library.sh. The functions are those of crates/odr, each
  * proved to answer as its promise there says, for every input. docs/FORMAT.md defines the record, the refusals, blocks and the
  * index of seconds.
  *

@@ -1,4 +1,4 @@
-//! Links the library that `rt staticlib odr` makes: target/staticlib/libodr.a of this repository, or libodr.a in the folder that the
+//! Links the library that tests/library.sh makes: target/staticlib/libodr.a of this repository, or libodr.a in the folder that the
 //! environment variable ODR_LIB_DIR names. A path that is not a full one starts at this package.
 
 use std::path::Path;
@@ -11,7 +11,7 @@ fn main() {
     let library = folder.join("libodr.a");
     if !library.is_file() {
         println!(
-            "cargo::error=there is no {}: run `rt staticlib odr` in {}, or give the folder of a libodr.a in ODR_LIB_DIR",
+            "cargo::error=there is no {}: run `tests/library.sh` in {}, or give the folder of a libodr.a in ODR_LIB_DIR",
             library.display(),
             repository.display()
         );

@@ -1,17 +1,18 @@
 #!/usr/bin/env python3
-"""An audit of the repository's own rules, read from its text and from the logs of the last `rt ci`.
+"""An audit of the repository's own rules, read from its text and from what `rt ci` or `rt must-fail` printed.
 
-    audit.py [--all]
+    audit.py [--all] [LOG]
 
 - Every public function of a library has a promise (`ensures`) and none has a `requires`.
 - Every must-fail edit says in its first line which wrong program it is, edits no proof, and finds each text that it replaces once.
 - docs/TRACE.md names every must-fail edit, and no edit that is not there.
 - A row of a table in README.md and docs/ has as many cells as the table's first row.
-- The log of every edit that was tried, in target/must-fail, ends in the prover's refusal, and its first refusal is of a fact: it
-  stands in a proof, or is of a function without a proof file. An error in specs/ or src/ means that the edited definition, code or
-  promise does not type-check, since no proof stands there; and a proof can be refused only because it no longer fits the edited
-  text: a name, a field or an argument that is not there, or a type of data. Such refusals show nothing. That the fact is false
-  is for a reader of the log to say. With --all, as in the gate, every edit must have been tried.
+- Every edit that LOG has a line of was refused by the prover, and the first refusal, of which the line has the first 160
+  characters, is of a fact: it stands in a proof, or is of a function without a proof file. An error in specs/ or src/ means that
+  the edited definition, code or promise does not type-check, since no proof stands there; and a proof can be refused only because
+  it no longer fits the edited text: a name, a field or an argument that is not there, or a type of data. Such refusals show
+  nothing, nor does one by a limit of the prover's. That the fact is false is for a reader of the line to say. With --all, as in
+  the gate, every edit must have been tried.
 
 It exits with 1 where a rule is broken.
 """
@@ -20,9 +21,12 @@ import re
 import sys
 
 ROOT = pathlib.Path(__file__).resolve().parent.parent
+# What rt says of an edit that it tried; behind the first colon stands what the prover said, if an edit was refused for that.
+TRIED = re.compile(r"^rt: must-fail (\w+/[\w.-]+)\.edit: (.*)", re.M)
+REFUSED = "refused, as it must be"
 # An error, or a fact that the prover's own search did not prove. An error that says "was not admitted" only follows from another
-# refusal, which may be printed after it.
-REFUSAL = re.compile(r"^(?!.* was not admitted).*: error: .*|^note: .*: it is not proved that .*", re.M)
+# refusal.
+REFUSAL = re.compile(r"(?!.* was not admitted)(?:\./)?(\w+)/.*: error: .*|note: .*: it is not proved that .*")
 # A type of data: each of its words is a type, where a statement has values in it (`Agree o ledger cells`, `a ≡ b`).
 WORD = r"(?:[\w·]+\.)*[A-Zℕℤ]\w*"
 DATA = rf"\(?{WORD}(?:[ ()→×]+{WORD})*\)?"
@@ -52,19 +56,17 @@ def check_promises():
     return count
 
 
-def first_refusal(log):
-    """The first refusal's line and the lines that it runs on to, which are indented."""
-    found = REFUSAL.search(log)
-    return re.match(r".*(?:\n  .*)*", log[found.start():])[0] if found else ""
-
-
-def check_log(name, log):
-    refusal = first_refusal(log)
-    if not re.search(r"^logic=not-proved", log, re.M):
-        faults.append(f"{name}: the log has no refusal of the prover's")
-    elif not refusal:
+def check_refusal(name, said):
+    """What rt said of the edit tells of a fact that is refused."""
+    how, _, refusal = said.partition(": ")
+    found = REFUSAL.match(refusal)
+    if how.startswith(f"{REFUSED} (only because "):
+        faults.append(f"{name} is refused for its shape only")
+    elif how != REFUSED:
+        faults.append(f"{name} is not refused by the prover: {said[:80]}")
+    elif not found:
         faults.append(f"{name} is refused, but no fact is")
-    elif ": error: " in refusal and f"/{name}/proofs/" not in refusal.split(": error: ")[0]:
+    elif found[1] not in (None, "proofs"):
         faults.append(f"{name} does not type-check")
     elif SHAPE.search(refusal):
         faults.append(f"{name} is refused for its shape only")
@@ -85,9 +87,15 @@ def check_texts(name, edit, lines):
             texts[file] = texts[file].replace(old, line[5:], 1)
 
 
+def read_log():
+    """What rt said of each edit, by the edit's name; the last it said, where the log has several runs."""
+    files = [word for word in sys.argv[1:] if word != "--all"]
+    return dict(found for file in files for found in TRIED.findall(pathlib.Path(file).read_text(encoding="utf-8", errors="replace")))
+
+
 def check_edits():
     edits = sorted(ROOT.glob("crates/*/must-fail/*.edit"))
-    logs = 0
+    tried, read = read_log(), 0
     for edit in edits:
         name = f"{edit.parent.parent.name}/{edit.stem}"
         lines = edit.read_text(encoding="utf-8").splitlines()
@@ -96,13 +104,12 @@ def check_edits():
         if any(line.startswith("file: proofs/") for line in lines):
             faults.append(f"{name} edits a proof")
         check_texts(name, edit, lines)
-        log = ROOT / "target" / "must-fail" / name / ".log"
-        if log.is_file():
-            logs += 1
-            check_log(name, log.read_text(encoding="utf-8", errors="replace"))
-    if "--all" in sys.argv and logs < len(edits):
-        faults.append(f"only {logs} of {len(edits)} must-fail edits were tried")
-    return edits, logs
+        if name in tried:
+            read += 1
+            check_refusal(name, tried[name])
+    if "--all" in sys.argv and read < len(edits):
+        faults.append(f"only {read} of {len(edits)} must-fail edits were tried")
+    return edits, read
 
 
 def check_trace(edits):
@@ -127,12 +134,12 @@ def check_tables():
 
 def main():
     functions = check_promises()
-    edits, logs = check_edits()
+    edits, read = check_edits()
     check_trace(edits)
     check_tables()
     for fault in faults:
         print(f"tests/audit.py: {fault}", file=sys.stderr)
-    print(f"tests/audit.py: {functions} public functions, {len(edits)} must-fail edits, {logs} refusals read: {len(faults)} faults")
+    print(f"tests/audit.py: {functions} public functions, {len(edits)} must-fail edits, {read} refusals read: {len(faults)} faults")
     return 1 if faults else 0
 
 

@@ -117,7 +117,7 @@ user() {
     run env "$@" CARGO_TARGET_DIR="$tmp/built" cargo run --quiet --offline --manifest-path user/Cargo.toml
 }
 no_library() { # FOLDER
-    echo "error: odr@0.1.0: there is no $1/libodr.a: run \`rt staticlib odr\` in $tmp/there," \
+    echo "error: odr@0.1.0: there is no $1/libodr.a: run \`tests/library.sh\` in $tmp/there," \
         "or give the folder of a libodr.a in ODR_LIB_DIR"
     echo "error: build script logged errors"
 }

@@ -5,7 +5,7 @@
 # It exits non-zero where anything differs; its last line says how many cases passed.
 set -euo pipefail
 cd "$(dirname "$(readlink -f "$0")")/.."
-[ -x target/bin/lister ] || { echo "tests/list.sh: target/bin/lister is not built: rt check lister builds it" >&2; exit 1; }
+[ -x target/bin/lister ] || { echo "tests/list.sh: target/bin/lister is not built: ./list builds it" >&2; exit 1; }
 trap 'echo "tests/list.sh: stopped at line $LINENO" >&2' ERR
 unset CDPATH "${!GIT_@}"
 tmp=$(readlink -f "$(mktemp -d)")
@@ -57,13 +57,12 @@ cat >"$tmp/rt/rt" <<'STANDIN'
 echo "$(pwd) $*" >>"$CALLS"
 cat >/dev/null
 seq 100
-echo "rt: $2 proved (0 s)"
-if [ "$2" = lister ] && [ ! -e target/stamp/lister ]; then
-    mkdir -p target/bin target/stamp
-    cp "$LISTER" target/bin/lister
-fi
-if [ "$2" = "${FAILS:-}" ]; then exit 1; fi
-if [ "$2" = lister ]; then : >target/stamp/lister; fi
+crate=$(basename "$(pwd)")
+echo "rt: $crate proved (0 s)"
+mkdir -p out
+if [ "$1" = run ] && [ ! -e "out/$crate.stamp" ]; then cp "$LISTER" "out/$crate"; fi
+if [ "$crate" = "${FAILS:-}" ]; then exit 1; fi
+if [ "$1" = run ]; then : >"out/$crate.stamp"; fi
 STANDIN
 chmod +x "$tmp/rt/rt"
 
@@ -262,14 +261,20 @@ run "$new/list" data/sample.odr
 expect "built before" 0 data/sample.csv ''
 PATH=$tmp/tools run "$new/list" data/sample.odr
 expect "built before, no rt" 0 data/sample.csv ''
+touch -d 2001-01-01 "$new/target/bin/lister"
+run "$new/list" data/sample.odr
+expect "built before, and what rt keeps is newer" 0 data/sample.csv ''
 check "nothing is built twice" [ ! -s "$CALLS" ]
 
-# newer NAME: the lister is built anew, in its own folder, and then not again.
+# newer NAME: the lister is built anew, from its own folder, and then not again.
+asked() {
+    for crate in $crates; do echo "$new/crates/$crate lib"; done | sed '$s/lib$/run/'
+}
 newer() {
     : >"$CALLS"
     CDPATH=$tmp:/ run "$new/list" data/sample.odr
     expect "$1: built anew" 0 data/sample.csv "$(progress lister)"
-    check "$1: what rt is asked" diff "$CALLS" <(for crate in $crates; do echo "$new check $crate"; done)
+    check "$1: what rt is asked" diff "$CALLS" <(asked)
     run "$new/list" data/sample.odr
     expect "$1: built once" 0 data/sample.csv ''
 }

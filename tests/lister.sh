@@ -5,7 +5,7 @@
 set -euo pipefail
 cd "$(dirname "$0")/.."
 lister=target/bin/lister
-[ -x "$lister" ] || { echo "tests/lister.sh: $lister is not built: rt check lister builds it" >&2; exit 1; }
+[ -x "$lister" ] || { echo "tests/lister.sh: $lister is not built: ./list builds it" >&2; exit 1; }
 got=$(mktemp)
 trap 'rm -f "$got"' EXIT
 trap 'echo "tests/lister.sh: stopped at line $LINENO" >&2' ERR
