@@ -1,4 +1,3 @@
--- a number below 128 is held by a signed byte, is read back from it, and can be cast to a byte
 use Prim.Native.Nat.{ℕ, ◌-◌, ◌<◌}
 use mathlib.Core.Path.{◌≡◌, ap, sym, ◌∙◌, subst}
 use native.Mathlib.Omega.{arith}
@@ -12,6 +11,7 @@ use Rattle.channels.specs.Sample.{byte_of}
 use Rattle.channels.proofs.Complement.{not_negative, negative}
 use Rattle.channels.proofs.unsigned.Goals as goal
 
+-- a number below 128 is held by a signed byte, is read back from it, and can be cast to a byte
 module _ (z : ℤ) (n : ℕ) (e : z ≡ pos n) (h : n < 128) where
   castable : T (non_neg z) × Fits w8 (nat_abs z)
   castable = subst (λ (y : ℤ). T (non_neg y) × Fits w8 (nat_abs y)) (sym e) (tt, record { fits = omega (arith, h) })

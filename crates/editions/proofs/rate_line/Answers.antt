@@ -1,4 +1,3 @@
--- of a line of a known edition
 use Prim.Native.Nat.{ℕ}
 use mathlib.Core.Path.{ap, sym, ◌∙◌}
 use mathlib.Core.Bool.{Bool, cond}
@@ -11,6 +10,7 @@ use Rattle.editions.specs.Rates.{sample_rate_of}
 use Rattle.editions.specs.Answer.{line_out}
 use Rattle.editions.proofs.rate_line.Goals as goal
 
+-- of a line of a known edition
 abbrev known : SampleRate → RateLineAnswer
 known l = line_out (first (5 when is_no_rate l ∷ [])) l
 

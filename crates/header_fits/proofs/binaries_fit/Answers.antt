@@ -1,4 +1,3 @@
--- the own rows of each edition are readable, so their tests are the same
 use Prim.Native.Nat.{ℕ}
 use mathlib.Core.Path.{◌≡◌, refl, ap, ◌∙◌}
 use mathlib.Core.Bool.{true}
@@ -13,6 +12,7 @@ use Rattle.header.specs.Edition.{edition_of, fields_of}
 use Rattle.header.proofs.Sound.{of-editions}
 use Rattle.header_fits.proofs.binaries_fit.Goals as goal
 
+-- the own rows of each edition are readable, so their tests are the same
 own-fit : (n : ℕ) (v : List ℕ) → rows_fit (edition_of n).own 40 v true ≡ all_fit binary_fits (edition_of n).own (cells 40 8 v)
 unfolding fits_binary
 own-fit n v = of-editions (λ e. rows_fit e.own 40 v true ≡ all_fit binary_fits e.own (cells 40 8 v)) refl refl n

@@ -1,4 +1,3 @@
--- where the code clears, there is no refusal
 use mathlib.Core.Path.{◌≡◌, ap, sym, ◌∙◌}
 use native.Mathlib.Omega.{arith}
 use Rattle.index_model.specs.Records.{in_edition}
@@ -9,6 +8,7 @@ use Rattle.index_open.proofs.Opened.{judged, accepted-opening, not_opened}
 use Rattle.index_open.proofs.open.Goals as goal
 use Rattle.index_open.proofs.open.Goals.{Then-n-eq0}
 
+-- where the code clears, there is no refusal
 none : (c : Then-n-eq0)
     → let a = c.args in open_refusal
     (in_edition a.edition a.pattern.now) a.first_second a.second_count a.highest_number

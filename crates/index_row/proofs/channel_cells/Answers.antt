@@ -1,4 +1,3 @@
--- the channel's total is bounded, and its least and greatest are signed bytes
 use mathlib.Core.List.{[], ◌∷◌}
 use native.Mathlib.Omega.{arith}
 use mir.Syntax.{w8}
@@ -11,6 +10,7 @@ use Rattle.index_row.proofs.Channel.{sum-made, least-made, greatest-made, made-f
 use Rattle.index_row.proofs.channel_cells.Goals as goal
 use Rattle.index_row.proofs.channel_cells.Goals.{Start}
 
+-- the channel's total is bounded, and its least and greatest are signed bytes
 abbrev total : Start → Total
 total s = total_at s.args.totals s.args.channel
 

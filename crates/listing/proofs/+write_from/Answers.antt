@@ -12,11 +12,13 @@ pub write_from-requires : goal.write_from-requires
 write_from-requires t c =
     let d = c.args.reader in
     let r = c.next-moved.result in
-    let less = falls d r c.requires.0 c.next-moved.ensures c.if-place-end.true in
-    (omega (arith, less), (
-      again-1985 d r c.requires.0 c.next-moved.ensures,
-      room_after d r c.requires.0 c.next-moved.ensures c.if-place-end.true c.requires.1 c.write_line-next.ensures,
-    ))
+    let less = falls d r c.requires.0 c.next-moved.ensures c.if-place-end.true in (
+      omega (arith, less),
+      (
+        again-1985 d r c.requires.0 c.next-moved.ensures,
+        room_after d r c.requires.0 c.next-moved.ensures c.if-place-end.true c.requires.1 c.write_line-next.ensures,
+      ),
+    )
 
 pub returns-then-place-end : goal.returns-then-place-end
 returns-then-place-end t c =

@@ -15,8 +15,7 @@ begins r reel e = (λ i. text_from (e i).reel.now (e i).place) ∙ from_start re
 
 pub write_from-requires : goal.write_from-requires
 write_from-requires c =
-    let r = c.new.result in
-    (
+    let r = c.new.result in (
       ap (λ (d : Reader). d.edition) c.new.ensures,
       room_as (begins r c.args.reel c.new.ensures) c.requires,
     )

@@ -1,4 +1,3 @@
--- a refusal after one that does not apply
 use Prim.Native.Nat.{ℕ, ◌<◌}
 use mathlib.Core.Path.{◌≡◌, sym, ap, subst, ◌∙◌}
 use mathlib.Core.Bool.{Bool, true, false, cond}
@@ -14,6 +13,7 @@ use Rattle.record.proofs.refusal_of.Goals as goal
 applied : (t : Bool) (n m : ℕ) → t ≡ true → n ≡ cond t n m
 applied t n m e = sym (ap (λ (s : Bool). cond s n m) e)
 
+-- a refusal after one that does not apply
 passed : (t : Bool) (n m k : ℕ) → t ≡ false → k ≡ m → k ≡ cond t n m
 passed t n m k e f = f ∙ sym (ap (λ (s : Bool). cond s n m) e)
 

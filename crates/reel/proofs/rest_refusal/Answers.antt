@@ -1,5 +1,4 @@
 -- 1, 2, then the record's own refusal. Assumes nothing.
--- the definition at the word w that was read and the header's length h
 use Prim.Native.Nat.{ℕ, ◌*◌, ◌/◌}
 use mathlib.Core.Path.{◌≡◌, refl, sym, ◌∙◌}
 use mathlib.Core.Bool.{Bool, true, false, ◌||◌}
@@ -15,6 +14,7 @@ use Rattle.reel.specs.Reel.{words_in, rest_refusal}
 use borrow.Author.Rules.{rules}
 use Rattle.reel.proofs.rest_refusal.Goals as goal
 
+-- the definition at the word w that was read and the header's length h
 module _ (n : ℕ) (rest : List ℕ) (w : ℕ) (e : w ≡ words_in rest) (h : ℕ) (h-is : h ≡ header_bytes n) where
   -- by what the two tests of the code told
   by_tests : (a b : Bool) → ltb (length rest) h || ltb w (h / 2) ≡ a → ltb (length rest) (2 * w) ≡ b

@@ -1,4 +1,3 @@
--- by the number of codes p of a width w
 use Prim.Native.Nat.{ℕ, ◌+◌, ◌-◌, ◌%◌, ◌^◌, ◌≤◌, ◌<◌}
 use mathlib.Core.Path.{◌≡◌, ap, sym, subst, ◌∙◌}
 use native.Mathlib.Omega.{arith}
@@ -9,6 +8,7 @@ use Rattle.signed.specs.Signed.{signed_value}
 use Rattle.signed.proofs.Codes.{value_by, lower, upper, few-codes}
 use Rattle.signed.proofs.value_of.Goals as goal
 
+-- by the number of codes p of a width w
 shown : (code p v w : ℕ) → p ≡ 2 ^ v → v ≡ w → value_by p (2 ^ 64) (code % p) ≡ signed_value w (code % 2 ^ w)
 shown code p v w e f = ap (λ (z : ℕ). value_by z (2 ^ 64) (code % z)) e ∙ ap (λ (z : ℕ). signed_value z (code % 2 ^ z)) f
 

@@ -1,5 +1,4 @@
 -- `text::room` meets its contract. Assumes nothing.
--- what is left behind a place is compared without a sum that could wrap
 use mathlib.Core.Path.{◌≡◌, sym, ◌∙◌}
 use mathlib.Core.Logic.{⊎_elim}
 use Prim.Native.Nat.{ℕ, ◌+◌, ◌-◌, ◌≤◌}
@@ -9,6 +8,7 @@ use borrow.Author.Tests.{le-leb, lt-leb}
 use Rattle.lists.proofs.Order.{le-or-lt}
 use Rattle.text.proofs.room.Goals as goal
 
+-- what is left behind a place is compared without a sum that could wrap
 left_behind : (at count length : ℕ) → at ≤ length → leb count (length - at) ≡ leb (at + count) length
 left_behind at count length h =
     ⊎_elim (λ p. le-leb count (length - at) (omega arith) ∙ sym (le-leb (at + count) length p))

@@ -1,4 +1,3 @@
--- the refusal that was worked out
 use Prim.Native.Nat.{ℕ, ◌^◌, ◌<◌}
 use mathlib.Core.Path.{◌≡◌, refl, ap, sym, subst, ◌∙◌}
 use mathlib.Core.Bool.{not}
@@ -20,6 +19,7 @@ use borrow.Author.Rules.{rules}
 use Rattle.times.proofs.sample_time.Goals as goal
 use Rattle.times.proofs.sample_time.Goals.{After-first_refusal-refusal}
 
+-- the refusal that was worked out
 refusal_is : (c : After-first_refusal-refusal)
     → c.first_refusal-refusal.result ≡ time_refusal c.args.edition
     c.args.bytes.now
@@ -38,11 +38,10 @@ returns-then-refusal-ne0 c =
     ap (λ (n : ℕ). refused (pos 0) n) e ∙ unless-some _ (pos 0) _ (λ z. c.if-refusal-ne0.true (e ∙ z))
 
 pub time_of-requires : goal.time_of-requires
-time_of-requires c =
-    (
-      subst (λ (n : ℕ). n < 2 ^ 27) (sym c.read_field-tag.ensures) (value-lt time_tag _ refl refl),
-      is-sample _ _ _ (refusal_is (goal.at.time_of-requires c).After-first_refusal-refusal) c.if-refusal-ne0.false,
-    )
+time_of-requires c = (
+  subst (λ (n : ℕ). n < 2 ^ 27) (sym c.read_field-tag.ensures) (value-lt time_tag _ refl refl),
+  is-sample _ _ _ (refusal_is (goal.at.time_of-requires c).After-first_refusal-refusal) c.if-refusal-ne0.false,
+)
 
 pub returns : goal.returns
 unfolding time_answer sample_time
