@@ -6,24 +6,18 @@ use lib.IntN.{ℤ, pos}
 use Rattle.answers.specs.Answer.{Answer, refused, told, unless}
 use Rattle.answers.proofs.Refusals.{refused-some}
 use Rattle.block_layout.specs.declared.LengthAnswer.{LengthAnswer}
-use Rattle.block_layout.specs.declared.LengthAnswer.TheVariants as LengthAnswer
 use Rattle.block_layout.specs.Given.{shown_length}
 use Rattle.index_model.specs.declared.Opening.{Opening}
 use Rattle.index_model.specs.Opening.{no_opening}
 use Rattle.index_open.specs.declared.OpenAnswer.{OpenAnswer}
-use Rattle.index_open.specs.declared.OpenAnswer.TheVariants as OpenAnswer
 use Rattle.index_open.specs.Shown.{shown_open}
 use Rattle.index_query.specs.declared.ConsistencyAnswer.{ConsistencyAnswer}
-use Rattle.index_query.specs.declared.ConsistencyAnswer.TheVariants as ConsistencyAnswer
 use Rattle.index_query.specs.Shown.{shown_consistency}
 use Rattle.listing.specs.declared.ListAnswer.{ListAnswer}
-use Rattle.listing.specs.declared.ListAnswer.TheVariants as ListAnswer
 use Rattle.listing.specs.Shown.{shown_list}
 use Rattle.frequency_rate.specs.declared.FrequencyRateAnswer.{FrequencyRateAnswer}
-use Rattle.frequency_rate.specs.declared.FrequencyRateAnswer.TheVariants as FrequencyRateAnswer
 use Rattle.frequency_rate.specs.FrequencyRate.{shown_frequency_rate}
 use Rattle.times.specs.declared.TimeAnswer.{TimeAnswer}
-use Rattle.times.specs.declared.TimeAnswer.TheVariants as TimeAnswer
 use Rattle.times.specs.SampleTime.{shown_time}
 use Rattle.c_answers.specs.declared.FrequencyRateOut.{FrequencyRateOut}
 use Rattle.c_answers.specs.declared.TimeOut.{TimeOut}

@@ -4,23 +4,15 @@ use Rattle.std.specs.Prelude.{ℕ, ◌*◌, false, cond, pos, Float}
 use Rattle.std.specs.Float.{fin}
 use Rattle.answers.specs.Answer.{Answer}
 use Rattle.block_layout.specs.declared.LengthAnswer.{LengthAnswer}
-use Rattle.block_layout.specs.declared.LengthAnswer.TheVariants as LengthAnswer
 use Rattle.index_model.specs.Opening.{no_opening}
 use Rattle.index_open.specs.declared.OpenAnswer.{OpenAnswer}
-use Rattle.index_open.specs.declared.OpenAnswer.TheVariants as OpenAnswer
 use Rattle.index_query.specs.declared.ConsistencyAnswer.{ConsistencyAnswer}
-use Rattle.index_query.specs.declared.ConsistencyAnswer.TheVariants as ConsistencyAnswer
 use Rattle.listing.specs.declared.ListAnswer.{ListAnswer}
-use Rattle.listing.specs.declared.ListAnswer.TheVariants as ListAnswer
 use Rattle.frequency_rate.specs.declared.FrequencyRateAnswer.{FrequencyRateAnswer}
-use Rattle.frequency_rate.specs.declared.FrequencyRateAnswer.TheVariants as FrequencyRateAnswer
 use Rattle.reel.specs.declared.Step.{Step}
-use Rattle.reel.specs.declared.Step.TheVariants as Step
 use Rattle.segments.specs.Segments.{most_words}
 use Rattle.times.specs.declared.TimeAnswer.{TimeAnswer}
-use Rattle.times.specs.declared.TimeAnswer.TheVariants as TimeAnswer
 use Rattle.times.specs.declared.PhaseAnswer.{PhaseAnswer}
-use Rattle.times.specs.declared.PhaseAnswer.TheVariants as PhaseAnswer
 use Rattle.c_answers.specs.declared.FrequencyRateOut.{FrequencyRateOut}
 use Rattle.c_answers.specs.declared.TimeOut.{TimeOut}
 use Rattle.c_answers.specs.declared.PhasesOut.{PhasesOut}

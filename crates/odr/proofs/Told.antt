@@ -5,11 +5,9 @@ use lib.Ieee.{Float}
 use lib.ListN.{get_or}
 use Rattle.answers.specs.Answer.{Answer}
 use Rattle.reel.specs.declared.Step.{Step}
-use Rattle.reel.specs.declared.Step.TheVariants as Step
 use Rattle.reel.specs.Reel.{Found}
 use Rattle.reel.specs.Shown.{shown_step}
 use Rattle.times.specs.declared.PhaseAnswer.{PhaseAnswer}
-use Rattle.times.specs.declared.PhaseAnswer.TheVariants as PhaseAnswer
 use Rattle.times.specs.Phases.{shown_phases}
 use Rattle.c_answers.specs.declared.PhasesOut.{PhasesOut}
 use Rattle.c_answers.specs.declared.StepOut.{StepOut}

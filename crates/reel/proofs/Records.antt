@@ -1,12 +1,12 @@
 -- A reel made of accepted records of the edition n: the walk hands out those records and finishes. Assumes nothing.
-use Prim.Native.Nat.{ℕ, zero, suc, ◌+◌, ◌*◌, ◌-◌, ◌≤◌}
+use Prim.Native.Nat.{ℕ, zero, suc, ◌+◌, ◌-◌, ◌≤◌}
 use mathlib.Core.Path.{◌≡◌, refl, ap, sym, ◌∙◌}
 use mathlib.Core.Bool.{false}
 use mathlib.Core.List.{List, [], ◌∷◌, flatten}
 use native.Mathlib.Omega.{arith}
 use lib.ListN.{length, take, drop, length-drop, length-append}
 use lib.Seq.{drop-drop, take-append_seam, drop-append_seam}
-use Rattle.header.specs.Edition.{is_unknown, header_bytes}
+use Rattle.header.specs.Edition.{is_unknown}
 use Rattle.reel.specs.Reel.{Found, accepted, finished, step_at, bytes_found, place_after, record_at, next_place}
 use Rattle.reel.specs.Walk.{Walk, is_record, onward, walk_from, AllAccepted}
 use Rattle.reel.proofs.Rest.{header-size, accepted-size}

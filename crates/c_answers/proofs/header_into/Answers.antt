@@ -8,7 +8,6 @@ use Rattle.fields.specs.Table.{read_all}
 use Rattle.header.specs.Edition.{fields_of}
 use Rattle.record.specs.Record.{record_refusal, no_values, header_answer}
 use Rattle.c_answers.specs.Out.{value_or}
-use borrow.Author.Rules.{rules}
 use Rattle.c_answers.proofs.header_into.Goals as goal
 
 pub returns-then-refusal-eq0 : goal.returns-then-refusal-eq0

@@ -1,10 +1,8 @@
 use Prim.Native.Nat.{ℕ, ◌≤◌, ◌-◌}
 use mathlib.Core.Path.{◌≡◌}
-use native.Mathlib.Omega.{arith}
 use lib.ListN.{length, get_or}
 use Rattle.c_answers.specs.Out.{longest_segment}
-use borrow.Author.Rules.{rules}
-use Rattle.lists.proofs.Fill.{Filled, filled_none, filled_more, tab-ext}
+use Rattle.lists.proofs.Fill.{Filled}
 use Rattle.c_answers.proofs.segment_bytes.Given as goal
 
 abbrev pub invariant-loop-k : goal.invariant-loop-k

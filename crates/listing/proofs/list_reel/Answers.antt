@@ -3,9 +3,8 @@ use mathlib.Core.Path.{◌≡◌, ap, sym, ◌∙◌}
 use mathlib.Core.List.{List}
 use Prim.Native.Nat.{ℕ, ◌≤◌}
 use native.Mathlib.Omega.{arith}
-use lib.ListN.{length, take, drop, length-append}
+use lib.ListN.{length, take, length-append}
 use lib.Seq.{length-take-le, take-append_seam}
-use borrow.Author.Rules.{rules}
 use Rattle.text.specs.Placed.{answer_at, buffer_at}
 use Rattle.listing.specs.Listing.{listing}
 use Rattle.listing.proofs.Answers.{from_start}

@@ -4,7 +4,6 @@ use mathlib.Core.Path.{◌≡◌, sym}
 use mathlib.Core.List.{List, ◌++◌}
 use native.Mathlib.Omega.{arith}
 use lib.ListN.{length}
-use borrow.Author.Rules.{rules}
 use Rattle.numbers.specs.Number.{decimal_text, digits_in}
 use Rattle.text.specs.Text.{header_line, refused_line}
 use Rattle.numbers.specs.Writing.{Room, Written}

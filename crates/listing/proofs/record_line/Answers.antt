@@ -1,7 +1,5 @@
-use mathlib.Core.Path.{ap, subst, ◌∙◌}
-use mathlib.Core.List.{List}
+use mathlib.Core.Path.{ap, ◌∙◌}
 use Prim.Native.Nat.{ℕ}
-use borrow.Author.Rules.{rules}
 use Rattle.text.specs.declared.Columns.{Columns}
 use Rattle.text.specs.Placed.{answer_at, buffer_at}
 use Rattle.text.specs.Text.{record_line}

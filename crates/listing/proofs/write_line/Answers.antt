@@ -6,7 +6,6 @@ use mathlib.Core.Bool.{true}
 use mathlib.Core.List.{List}
 use native.Mathlib.Omega.{arith}
 use lib.ListN.{take, drop}
-use borrow.Author.Rules.{rules}
 use Rattle.reel.specs.declared.Step.{Step}
 use Rattle.reel.specs.declared.Step.TheVariants.{Record, Finished, Refused}
 use Rattle.reel.specs.Reel.{step_at, next_place}

@@ -1,5 +1,4 @@
 use mathlib.Core.Path.{ap, ◌∙◌}
-use borrow.Author.Rules.{rules}
 use Rattle.text.specs.declared.Columns.{Columns}
 use Rattle.text.specs.Placed.{answer_at, buffer_at}
 use Rattle.text.specs.Text.{record_line}

@@ -1,4 +1,3 @@
-use borrow.Author.Rules.{rules}
 use Rattle.text.specs.Text.{refused_line}
 use Rattle.text.proofs.Judging.{put_written}
 use Rattle.listing.proofs.write_refusal.Goals as goal

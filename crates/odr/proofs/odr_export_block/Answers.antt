@@ -3,7 +3,6 @@ use Rattle.block_layout.specs.Layout.{exported_of}
 use Rattle.block_layout.specs.Carried.{block_at}
 use Rattle.block_layout.specs.Refusals.{block_refusal}
 use Rattle.c_answers.proofs.Told.{length-told}
-use borrow.Author.Rules.{rules}
 use Rattle.odr.proofs.odr_export_block.Goals as goal
 
 pub returns : goal.returns

@@ -1,7 +1,6 @@
 use Rattle.record.specs.Record.{record_refusal}
 use Rattle.frequency_rate.specs.FrequencyRate.{frequency_rate_of, frequency_rate_answer}
 use Rattle.c_answers.proofs.Told.{frequency-rate-told}
-use borrow.Author.Rules.{rules}
 use Rattle.odr.proofs.odr_frequency_rate.Goals as goal
 
 pub returns : goal.returns

@@ -2,7 +2,6 @@ use lib.ListN.{length}
 use Rattle.block_layout.specs.Carried.{carried_of}
 use Rattle.block_layout.specs.Refusals.{import_refusal}
 use Rattle.c_answers.proofs.Told.{length-told}
-use borrow.Author.Rules.{rules}
 use Rattle.odr.proofs.odr_import.Goals as goal
 
 pub returns : goal.returns

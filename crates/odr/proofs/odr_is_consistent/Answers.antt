@@ -2,7 +2,6 @@ use Rattle.index_model.specs.Buffers.{lent}
 use Rattle.index_model.specs.Opening.{opening_refusal}
 use Rattle.index_model.specs.Calls.{is_consistent, consistency_answer}
 use Rattle.c_answers.proofs.Told.{consistency-told}
-use borrow.Author.Rules.{rules}
 use Rattle.odr.proofs.odr_is_consistent.Goals as goal
 
 pub returns : goal.returns

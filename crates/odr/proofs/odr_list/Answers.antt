@@ -1,7 +1,6 @@
 use lib.ListN.{length}
 use Rattle.listing.specs.Listing.{text_refusal, listing, text_answer}
 use Rattle.c_answers.proofs.Told.{text-told}
-use borrow.Author.Rules.{rules}
 use Rattle.odr.proofs.odr_list.Goals as goal
 
 pub returns : goal.returns

@@ -2,7 +2,6 @@ use Rattle.index_model.specs.Records.{in_edition}
 use Rattle.index_model.specs.Buffers.{lent}
 use Rattle.index_model.specs.Opening.{opening_of, open_refusal, open_answer}
 use Rattle.c_answers.proofs.Told.{open_told}
-use borrow.Author.Rules.{rules}
 use Rattle.odr.proofs.odr_open.Goals as goal
 
 pub returns : goal.returns

@@ -1,5 +1,4 @@
 use Rattle.odr.proofs.Told.{phases-told}
-use borrow.Author.Rules.{rules}
 use Rattle.odr.proofs.odr_phases.Goals as goal
 
 pub returns : goal.returns

@@ -1,7 +1,6 @@
 use lib.ListN.{length}
 use Rattle.listing.specs.Listing.{line_refusal, record_text, text_answer}
 use Rattle.c_answers.proofs.Told.{text-told}
-use borrow.Author.Rules.{rules}
 use Rattle.odr.proofs.odr_record_line.Goals as goal
 
 pub returns : goal.returns

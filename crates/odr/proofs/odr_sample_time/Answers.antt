@@ -1,6 +1,5 @@
 use Rattle.times.specs.SampleTime.{sample_time, time_refusal, time_answer}
 use Rattle.c_answers.proofs.Told.{time-told}
-use borrow.Author.Rules.{rules}
 use Rattle.odr.proofs.odr_sample_time.Goals as goal
 
 pub returns : goal.returns

@@ -4,7 +4,6 @@ use mathlib.Core.List.{List}
 use lib.ListN.{length, get_or}
 use Rattle.lists.specs.Fill.{tab}
 use Rattle.c_answers.specs.Out.{longest_segment}
-use borrow.Author.Rules.{rules}
 use Rattle.odr.proofs.odr_segment.Goals as goal
 
 pub returns : goal.returns

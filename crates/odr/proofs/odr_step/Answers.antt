@@ -1,5 +1,4 @@
 use Rattle.odr.proofs.Told.{step-told}
-use borrow.Author.Rules.{rules}
 use Rattle.odr.proofs.odr_step.Goals as goal
 
 pub returns : goal.returns

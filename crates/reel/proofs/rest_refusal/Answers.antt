@@ -11,7 +11,6 @@ use Rattle.answers.specs.Refusal.{◌when◌, first, ◌then◌}
 use Rattle.header.specs.Edition.{header_bytes}
 use Rattle.record.specs.Record.{record_refusal}
 use Rattle.reel.specs.Reel.{words_in, rest_refusal}
-use borrow.Author.Rules.{rules}
 use Rattle.reel.proofs.rest_refusal.Goals as goal
 
 -- the definition at the word w that was read and the header's length h

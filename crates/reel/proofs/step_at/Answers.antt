@@ -9,7 +9,6 @@ use lib.Seq.{take_all}
 use Rattle.header.specs.Edition.{is_unknown}
 use Rattle.reel.specs.Reel.{accepted, refused, words_in, rest_refusal, step_at}
 use Rattle.reel.proofs.Place.{step-unknown, step-finished, step-found, found-accepted, found-refused}
-use borrow.Author.Rules.{rules}
 use Rattle.reel.proofs.step_at.Goals as goal
 
 module _ (n : ℕ) (reel : List ℕ) (place : ℕ) (known : is_unknown n ≡ false) (h : place < length reel) where

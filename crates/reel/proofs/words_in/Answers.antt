@@ -1,7 +1,6 @@
 use Prim.Native.Nat.{ℕ, ◌<◌, ◌^◌}
 use mathlib.Core.Path.{sym, subst}
 use Rattle.reel.proofs.Rest.{words_small}
-use borrow.Author.Rules.{rules}
 use Rattle.reel.proofs.words_in.Goals as goal
 
 pub returns : goal.returns
