@@ -10,7 +10,7 @@ use Rattle.index_row.proofs.Channel.{sum-made, least-made, greatest-made, made-f
 use Rattle.index_row.proofs.channel_cells.Goals as goal
 use Rattle.index_row.proofs.channel_cells.Goals.{Start}
 
--- the channel's total is bounded, and its least and greatest are signed bytes
+-- the channel's total is bounded
 abbrev total : Start → Total
 total s = total_at s.args.totals s.args.channel
 
