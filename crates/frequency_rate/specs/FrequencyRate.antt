@@ -5,7 +5,6 @@ use Rattle.answers.specs.Answer.{Answer, accepted, refused, unless}
 use Rattle.fields.specs.Field.{value_of}
 use Rattle.header.specs.Rows.{frequency_rate_digits, frequency_rate_power, frequency_rate_sign}
 use Rattle.frequency_rate.specs.declared.FrequencyRateAnswer.{FrequencyRateAnswer}
-use Rattle.frequency_rate.specs.declared.FrequencyRateAnswer.TheVariants as FrequencyRateAnswer
 use Rattle.record.specs.Record.{record_refusal}
 
 -- five digits of four bits, decimal or not, are less than this

@@ -7,7 +7,6 @@ use Rattle.answers.specs.Answer.{accepted, refused}
 use Rattle.answers.proofs.Refusals.{unless-none, unless-some}
 use Rattle.record.specs.Record.{record_refusal}
 use Rattle.frequency_rate.specs.FrequencyRate.{frequency_rate_of, frequency_rate_answer}
-use borrow.Author.Rules.{rules}
 use Rattle.frequency_rate.proofs.frequency_rate.Goals as goal
 
 pub returns-then-refusal-ne0 : goal.returns-then-refusal-ne0

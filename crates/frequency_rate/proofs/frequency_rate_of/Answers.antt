@@ -4,7 +4,6 @@ use mir.Syntax.{w64}
 use mir.ValLaws.{to_z-of_z}
 use Rattle.frequency_rate.specs.FrequencyRate.{digits_below, frequency_rate_units, frequency_rate_of}
 use Rattle.frequency_rate.proofs.Signs.{digits-small, power_small}
-use borrow.Author.Rules.{rules}
 use Rattle.frequency_rate.proofs.frequency_rate_of.Goals as goal
 
 pub frequency_rate_units-requires : goal.frequency_rate_units-requires

@@ -1,7 +1,6 @@
 use mathlib.Core.Path.{◌∙◌, ap, sym}
 use mathlib.Core.Bool.{Bool, cond}
 use Rattle.monitor.specs.Monitor.{chosen_record}
-use borrow.Author.Rules.{rules}
 use Rattle.monitor.proofs.choose_record.Goals as goal
 
 pub returns-then-is_new : goal.returns-then-is_new

@@ -4,7 +4,6 @@ use mathlib.Core.List.{List, []}
 use Rattle.answers.specs.Answer.{Answer}
 use Rattle.answers.proofs.Refusals.{unless-none, unless-some}
 use Rattle.monitor.specs.Monitor.{monitor_bytes}
-use borrow.Author.Rules.{rules}
 use Rattle.monitor.proofs.chosen_bytes.Goals as goal
 
 pub returns-then-refusal_of-ne0 : goal.returns-then-refusal_of-ne0

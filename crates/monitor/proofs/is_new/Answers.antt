@@ -4,7 +4,6 @@ use native.Mathlib.Omega.{arith}
 use lib.Dec.{eqb}
 use Rattle.bits.specs.Bits.{get_bits}
 use Rattle.monitor.specs.Monitor.{is_new}
-use borrow.Author.Rules.{rules}
 use Rattle.monitor.proofs.is_new.Goals as goal
 
 pub returns : goal.returns

@@ -3,7 +3,6 @@ use mathlib.Core.Path.{ap, sym, subst}
 use Rattle.sample_rates.specs.Rates.{last_sample_word}
 use Rattle.monitor.specs.Monitor.{last_sample_word_of, most_last_word}
 use Rattle.monitor.proofs.Monitor.{last-word-most}
-use borrow.Author.Rules.{rules}
 use Rattle.monitor.proofs.last_sample_word.Goals as goal
 
 pub returns : goal.returns

@@ -3,7 +3,6 @@ use mathlib.Core.Path.{◌∙◌}
 use lib.ListN.{length, take, drop}
 use Rattle.lists.proofs.Parts.{clipped}
 use Rattle.monitor.specs.Monitor.{monitor_byte, monitor_bytes}
-use borrow.Author.Rules.{rules}
 use Rattle.monitor.proofs.monitor_bytes.Goals as goal
 
 pub returns : goal.returns

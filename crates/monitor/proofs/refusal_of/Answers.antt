@@ -2,7 +2,6 @@ use mathlib.Core.Path.{◌∙◌}
 use mathlib.Core.Bool.{cond, not, ◌&&◌}
 use Rattle.answers.specs.Refusal.{◌then◌}
 use Rattle.monitor.specs.Monitor.{is_no_row}
-use borrow.Author.Rules.{rules}
 use Rattle.monitor.proofs.refusal_of.Goals as goal
 
 pub returns : goal.returns

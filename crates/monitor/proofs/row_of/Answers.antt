@@ -1,9 +1,5 @@
-use Prim.Native.Nat.{◌+◌, ◌-◌, ◌≤◌}
-use mathlib.Core.Path.{◌≡◌}
 use native.Mathlib.Omega.{arith}
-use lib.ListN.{drop}
 use borrow.Author.Rules.{rules}
-use Rattle.monitor.specs.Monitor.{segment_count, place_in}
 use Rattle.monitor.proofs.Search.{found, passed, none_left}
 use Rattle.monitor.proofs.row_of.Goals as goal
 

@@ -6,7 +6,6 @@ use native.Mathlib.Omega.{arith}
 use Rattle.answers.specs.Answer.{Answer}
 use Rattle.segments.specs.Question.{segment_row, answer_at}
 use Rattle.segments.proofs.Answers.{of_row, no_bytes}
-use borrow.Author.Rules.{rules}
 use Rattle.segments.proofs.segment.Goals as goal
 
 pub returns-then-row-eq-SEGMENT_COUNT : goal.returns-then-row-eq-SEGMENT_COUNT

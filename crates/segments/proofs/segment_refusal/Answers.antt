@@ -1,7 +1,6 @@
 use mathlib.Core.Path.{◌∙◌}
 use Rattle.segments.specs.Question.{segment_row}
 use Rattle.segments.proofs.Answers.{refusal-number}
-use borrow.Author.Rules.{rules}
 use Rattle.segments.proofs.segment_refusal.Goals as goal
 
 pub returns : goal.returns

@@ -1,6 +1,5 @@
 use Prim.Native.Nat.{◌%◌, ◌^◌}
 use mathlib.Core.Path.{sym, subst}
-use borrow.Author.Rules.{rules}
 use Rattle.header.specs.Edition.{Edition}
 use Rattle.header.proofs.Sound.{is-1992, is-1985}
 use Rattle.phase.specs.Phase.{InCycles}

@@ -7,7 +7,6 @@ use Rattle.header.specs.Rows.{time_tag}
 use Rattle.sample_rates.specs.Rates.{rate_hz}
 use Rattle.times.specs.SampleTime.{time_of, sample_time}
 use mir.Syntax.{w64}
-use borrow.Author.Rules.{rules}
 use Rattle.times.proofs.first_sample_time.Goals as goal
 
 pub time_of-requires : goal.time_of-requires

@@ -4,7 +4,6 @@ use native.Mathlib.Nat.{div-le_self}
 use native.Mathlib.Omega.{arith}
 use mir.Syntax.{w64}
 use mir.ValLaws.{to_z_pos}
-use borrow.Author.Rules.{rules}
 use Rattle.signed.proofs.Negated.{negated_fits, negated}
 use Rattle.sample_rates.specs.Rates.{second_us}
 use Rattle.times.specs.SampleTime.{tagged_sample}

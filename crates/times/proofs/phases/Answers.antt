@@ -8,7 +8,6 @@ use Rattle.header.specs.Edition.{fraction_bits}
 use Rattle.record.specs.Record.{record_refusal}
 use Rattle.times.specs.Phases.{phases_of, phase_answer}
 use Rattle.times.proofs.Counts.{exactly}
-use borrow.Author.Rules.{rules}
 use Rattle.times.proofs.phases.Goals as goal
 
 pub returns-then-refusal-ne0 : goal.returns-then-refusal-ne0

@@ -15,7 +15,6 @@ use Rattle.sample_rates.specs.Rates.{rate_hz, samples_per_record}
 use Rattle.times.specs.SampleTime.{time_of, sample_time, time_refusal, time_answer}
 use Rattle.times.proofs.Timed.{is-sample}
 use mir.Syntax.{w64}
-use borrow.Author.Rules.{rules}
 use Rattle.times.proofs.sample_time.Goals as goal
 use Rattle.times.proofs.sample_time.Goals.{After-first_refusal-refusal}
 

@@ -6,7 +6,6 @@ use mir.Facts.{to_z-of_z}
 use mir.Syntax.{w64}
 use mir.Val.{SFits, to_z, of_z}
 use mir.ValLaws.{to_z_pos}
-use borrow.Author.Rules.{rules}
 use Rattle.times.specs.SampleTime.{ms_us, time_of}
 use Rattle.times.proofs.Timed.{time-fits}
 use Rattle.times.proofs.time_of.Goals as goal
