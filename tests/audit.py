@@ -10,8 +10,8 @@
 - Every edit that LOG has a line of was refused by the prover, and the first refusal, of which the line has the first 160
   characters, is of a fact: it stands in a proof, or is of a function without a proof file. An error in specs/ or src/ means that
   the edited definition, code or promise does not type-check, since no proof stands there; and a proof can be refused only because
-  it no longer fits the edited text: a name, a field or an argument that is not there, or a type of data. Such refusals show
-  nothing, nor does one by a limit of the prover's. That the fact is false is for a reader of the line to say. With --all, as in
+  it no longer fits the edited text: a name, a field or an argument that is not there, a type of data, or a branch that has another
+  name since its condition was edited. Such refusals show nothing, nor does one by a limit of the prover's. That the fact is false is for a reader of the line to say. With --all, as in
   the gate, every edit must have been tried.
 
 It exits with 1 where a rule is broken.
@@ -27,6 +27,9 @@ REFUSED = "refused, as it must be"
 # An error, or a fact that the prover's own search did not prove. An error that says "was not admitted" only follows from another
 # refusal.
 REFUSAL = re.compile(r"(?!.* was not admitted)(?:\./)?(\w+)/.*: error: .*|note: .*: it is not proved that .*")
+# A fact that no answer of the function's and no search proves, at a goal by its name. Where rt found values at which it is false, the
+# line goes on with "the facts known there allow values ..".
+OPEN = re.compile(r"note: (src/[\w/]+\.rt):(\d+):\d+: it is not proved that .*?\(`([^`]+)`\)(.*)")
 # A type of data: each of its words is a type, where a statement has values in it (`Agree o ledger cells`, `a ≡ b`).
 WORD = r"(?:[\w·]+\.)*[A-Zℕℤ]\w*"
 DATA = rf"\(?{WORD}(?:[ ()→×]+{WORD})*\)?"
@@ -56,6 +59,24 @@ def check_promises():
     return count
 
 
+def is_renamed(name, refusal):
+    """Whether the refusal is of a branch's goal that the function's answers know under another name only: an edited condition renames
+    it, and then a condition that means the same would be refused too."""
+    found = OPEN.match(refusal)
+    if not found or "the facts known there allow" in found[4]:
+        return False
+    crate = ROOT / "crates" / name.split("/")[0]
+    above = (crate / found[1]).read_text(encoding="utf-8").splitlines()[: int(found[2])]
+    function = [fn[1] for fn in map(re.compile(r"\s*(?:pub )?(?:extern \"C\" )?fn (\w+)").match, above) if fn][-1]
+    branch = re.compile(r"-(?:then|else)-")
+    for answers in [*crate.glob(f"proofs/**/{function}/Answers.antt"), *crate.glob(f"proofs/**/+{function}/Answers.antt")]:
+        goals = {re.sub(r"-clause-.*", "", g) for g in re.findall(r"^pub (\S+) : goal\.", answers.read_text(encoding="utf-8"), re.M)}
+        goal = re.sub(r"-clause-.*", "", found[3])
+        if branch.search(goal) and goal not in goals and any(map(branch.search, goals)):
+            return True
+    return False
+
+
 def check_refusal(name, said):
     """What rt said of the edit tells of a fact that is refused."""
     how, _, refusal = said.partition(": ")
@@ -68,7 +89,7 @@ def check_refusal(name, said):
         faults.append(f"{name} is refused, but no fact is")
     elif found[1] not in (None, "proofs"):
         faults.append(f"{name} does not type-check")
-    elif SHAPE.search(refusal):
+    elif SHAPE.search(refusal) or is_renamed(name, refusal):
         faults.append(f"{name} is refused for its shape only")
 
 
