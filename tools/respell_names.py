@@ -15,7 +15,6 @@ import pathlib
 import re
 import sys
 
-WORD = re.compile(r"(?<![\w'.\-])([a-z_][\w'\-]*)|(?<=\.)([a-z_][\w'\-]*)")
 DECLARED = re.compile(r"^\s*(?:(?:unfoldable|abbrev|pub|data|record)\s+)*([a-z_][\w'\-]*)\s*(?:\([^)]*\)\s*|\{[^}]*\}\s*)*:", re.M)
 # Names of lemmas and of fields of records in proofs/ that port.py already wrote in snake case, and that a definition takes.
 LEMMAS = ["in_window", "rows_inside", "moved_by", "next_place", "with_value"]
