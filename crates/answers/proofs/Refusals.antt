@@ -9,6 +9,38 @@ use lib.ListN.{get_or}
 use Rattle.lists.proofs.Truth.{left, right}
 use borrow.Author.Tests.{eq-eqb, ne_eqb, eqb-true, eqb-false}
 use Rattle.answers.specs.Answer.{Answer, accepted, refused, told, unless}
+use Rattle.answers.specs.declared.Refusal.{Refusal}
+use Rattle.answers.specs.declared.Refusal.TheVariants.{
+  TooShort,
+  WrongLength,
+  Not8Bits,
+  Compressed,
+  NoSuchRate,
+  NotTheRatesLength,
+  NumberZero,
+  NoSuchDate,
+  PastTheDay,
+  NoDigit,
+  WrongSync,
+  NoSuchSample,
+  WrongLimits,
+  TooFewCells,
+  OtherReel,
+  NumberOutside,
+  SecondOutside,
+  SecondFull,
+  NotHeld,
+  NoSuchSegment,
+  TextTooLong,
+  ValueTooWide,
+  SegmentNotNew,
+  InputTooLong,
+  NoSuchEdition,
+  NoSegments,
+  BadCheck,
+  WrongBlocks,
+}
+use Rattle.answers.specs.Refused.{number_of}
 use Rattle.answers.specs.Refusal.{Check, ◌when◌, first, ◌then◌}
 
 -- the second refusal counts where the first is none
@@ -60,6 +92,60 @@ module _ {A : Type 0} (n : ℕ) (empty v : A) where
       by-test : (t : Bool) → eqb n 0 ≡ t → refused x m ≡ cond t (accepted v) (refused empty n) → eqb m 0 ≡ false
       by-test true a z = absurd (true≢false (ap (λ (y : Answer A). y.given) (sym z)))
       by-test false a z = ap (λ (y : Answer A). eqb y.number 0) z ∙ a
+
+-- ## results
+
+-- no refusal has the number 0
+pub numbered-above : (r : Refusal) → 1 ≤ number_of r
+numbered-above r = leb→le 1 (number_of r) (by-variant r)
+  where
+    by-variant : (r : Refusal) → T (leb 1 (number_of r))
+    by-variant TooShort = tt
+    by-variant WrongLength = tt
+    by-variant Not8Bits = tt
+    by-variant Compressed = tt
+    by-variant NoSuchRate = tt
+    by-variant NotTheRatesLength = tt
+    by-variant NumberZero = tt
+    by-variant NoSuchDate = tt
+    by-variant PastTheDay = tt
+    by-variant NoDigit = tt
+    by-variant WrongSync = tt
+    by-variant NoSuchSample = tt
+    by-variant WrongLimits = tt
+    by-variant TooFewCells = tt
+    by-variant OtherReel = tt
+    by-variant NumberOutside = tt
+    by-variant SecondOutside = tt
+    by-variant SecondFull = tt
+    by-variant NotHeld = tt
+    by-variant NoSuchSegment = tt
+    by-variant TextTooLong = tt
+    by-variant ValueTooWide = tt
+    by-variant SegmentNotNew = tt
+    by-variant InputTooLong = tt
+    by-variant NoSuchEdition = tt
+    by-variant NoSegments = tt
+    by-variant BadCheck = tt
+    by-variant WrongBlocks = tt
+
+-- so the number of a refusal is some number
+pub err-some : (r : Refusal) (n : ℕ) → number_of r ≡ n → n ≡ 0 → ⊥
+err-some r n e z = omega (arith, numbered-above r, e, z)
+
+-- a call that goes on after `?`, and one that ends there
+pub then-ok : (n m k : ℕ) → 0 ≡ n → k ≡ m → k ≡ n then m
+then-ok n m k e q = q ∙ sym (then-none n m (sym e))
+
+pub then-err : (r : Refusal) (n m : ℕ) → number_of r ≡ n → number_of r ≡ n then m
+then-err r n m e = e ∙ sym (then_some n m (err-some r n e))
+
+module _ {A : Type 0} (n : ℕ) (empty v : A) where
+  pub answer-ok : 0 ≡ n → accepted v ≡ unless n empty v
+  answer-ok e = unless-none n empty v (sym e)
+
+  pub answer-err : (r : Refusal) → number_of r ≡ n → refused empty (number_of r) ≡ unless n empty v
+  answer-err r e = ap (refused empty) e ∙ unless-some n empty v (err-some r n e)
 
 -- ## how large a number can be
 

@@ -1,11 +1,53 @@
-// What a call answers: a value, or the number of the first refusal that applies. FORMAT, "Refusal numbers". Every crate above
-// uses this.
+// What a call answers: a value, or the first refusal that applies. FORMAT, "Refusal numbers". Every crate above uses this.
 #![tactic(auto)]
 
 ghost use Rattle.std.specs.Prelude.{◌≡◌, cond};
 ghost use Rattle.answers.specs.Refusal.{◌then◌};
+ghost use Rattle.answers.specs.Refused.{number_of};
 
-// The refusal n, or where that is 0 the refusal m.
+// Why a call gives no value. The numbers are the customer's, and their order in a call is that of FORMAT.
+#[derive(Clone, Copy, Debug, PartialEq, Eq, Hash)]
+pub enum Refusal {
+    TooShort = 1,
+    WrongLength = 2,
+    Not8Bits = 3,
+    Compressed = 4,
+    NoSuchRate = 5,
+    NotTheRatesLength = 6,
+    NumberZero = 7,
+    NoSuchDate = 8,
+    PastTheDay = 9,
+    NoDigit = 10,
+    WrongSync = 11,
+    NoSuchSample = 12,
+    WrongLimits = 13,
+    TooFewCells = 14,
+    OtherReel = 15,
+    NumberOutside = 16,
+    SecondOutside = 17,
+    SecondFull = 18,
+    NotHeld = 19,
+    NoSuchSegment = 20,
+    TextTooLong = 21,
+    ValueTooWide = 22,
+    SegmentNotNew = 23,
+    InputTooLong = 24,
+    NoSuchEdition = 25,
+    NoSegments = 26,
+    BadCheck = 27,
+    WrongBlocks = 28,
+}
+
+// Its number, by which the customer's letters, listings and C know it.
+impl From<Refusal> for u8 {
+    ghost from_gives = { λ refusal n. n ≡ number_of refusal };
+
+    fn from(refusal: Refusal) -> u8 {
+        refusal as u8
+    }
+}
+
+// (temporary) The refusal n, or where that is 0 the refusal m.
 pub fn first_refusal(n: u8, m: u8) -> u8
     ensures { result ≡ n then m }
 {
@@ -15,7 +57,7 @@ pub fn first_refusal(n: u8, m: u8) -> u8
     m
 }
 
-// The refusal of this number where it applies, else that of the checks after it.
+// (temporary)
 pub fn check(number: u8, applies: bool, after: u8) -> u8
     ensures { result ≡ cond applies number after }
 {

@@ -2,9 +2,12 @@
 // FORMAT, "Refusal numbers".
 #![tactic(auto)]
 
-ghost use Rattle.std.specs.Prelude.{◌≡◌, not, ◌*◌, eqb};
+ghost use Rattle.std.specs.Prelude.{◌≡◌, not, ◌*◌, eqb, drop};
 ghost use Rattle.answers.specs.Refusal.{first};
+ghost use Rattle.answers.specs.Refused.{refusal_in};
 ghost use Rattle.checks.specs.Checks.{last_day, wrong_date, checks};
+
+use answers::Refusal;
 
 // The last millisecond of a day.
 pub const LAST_MS: u64 = 86_399_999;
@@ -55,32 +58,53 @@ pub fn wrong_date(year: u64, day: u64) -> bool
     (year > 99) | ((day == 0) | (day > last))
 }
 
-// The number of the first check, 25 and then 1 to 11, that applies, or 0. Each line has the checks after its own as what else
-// is given, so the last check comes first; the sample rate, whose lines are branches, is looked up only where its checks are,
-// which leaves little to be kept across them.
-pub fn first_check(edition: u64, j: Judged) -> u8
-    ensures { result ≡ first (checks edition j) }
+// The first check of the values, of 5 to 11, that applies.
+fn check_values(edition: u64, j: Judged) -> Result<(), Refusal>
+    ensures { refusal_in result ≡ first (drop 5 (checks edition j)) }
 {
-    let sync = answers::check(11, (j.clock_origin == 1) & (j.sync != SYNC_PATTERN), 0);
-    let digits = answers::check(10, !j.decimals, sync);
-    let times = answers::check(
-        9,
-        (j.time_tag > LAST_MS) | (j.readback_tag > LAST_MS),
-        digits,
-    );
-    let date = wrong_date(j.year, j.day);
-    let dates = answers::check(8, date, times);
-    let numbers = answers::check(7, (j.tape_number == 0) | (j.record_number == 0), dates);
     let rate = editions::sample_rate_of(edition, j.sample_rate);
-    let other_size = (j.length_words != rate.words_b) & (j.length_words != rate.words_a);
-    let sizes = answers::check(6, other_size, numbers);
-    let rates = answers::check(5, rate.hz == 0, sizes);
-    let compression = answers::check(4, j.compression != 1, rates);
-    let other = editions::other_resolution(edition);
-    let conversion = answers::check(3, j.conversion == other, compression);
-    let length = wrong_length(j.bytes, j.length_words);
-    let lengths = answers::check(2, length, conversion);
-    let header_bytes = editions::header_bytes(edition);
-    let short = answers::check(1, j.bytes < header_bytes, lengths);
-    answers::check(25, editions::is_unknown(edition), short)
+    if rate.hz == 0 {
+        return Err(Refusal::NoSuchRate);
+    }
+    if (j.length_words != rate.words_b) & (j.length_words != rate.words_a) {
+        return Err(Refusal::NotTheRatesLength);
+    }
+    if (j.tape_number == 0) | (j.record_number == 0) {
+        return Err(Refusal::NumberZero);
+    }
+    if wrong_date(j.year, j.day) {
+        return Err(Refusal::NoSuchDate);
+    }
+    if (j.time_tag > LAST_MS) | (j.readback_tag > LAST_MS) {
+        return Err(Refusal::PastTheDay);
+    }
+    if !j.decimals {
+        return Err(Refusal::NoDigit);
+    }
+    if (j.clock_origin == 1) & (j.sync != SYNC_PATTERN) {
+        return Err(Refusal::WrongSync);
+    }
+    Ok(())
+}
+
+// The first check, of 25 and then 1 to 11, that applies.
+pub fn first_check(edition: u64, j: Judged) -> Result<(), Refusal>
+    ensures { refusal_in result ≡ first (checks edition j) }
+{
+    if editions::is_unknown(edition) {
+        return Err(Refusal::NoSuchEdition);
+    }
+    if j.bytes < editions::header_bytes(edition) {
+        return Err(Refusal::TooShort);
+    }
+    if wrong_length(j.bytes, j.length_words) {
+        return Err(Refusal::WrongLength);
+    }
+    if j.conversion == editions::other_resolution(edition) {
+        return Err(Refusal::Not8Bits);
+    }
+    if j.compression != 1 {
+        return Err(Refusal::Compressed);
+    }
+    check_values(edition, j)
 }

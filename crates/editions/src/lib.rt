@@ -3,10 +3,12 @@
 #![tactic(auto)]
 
 ghost use Rattle.std.specs.Prelude.{◌≡◌, ◌≤◌};
+ghost use Rattle.answers.specs.Refused.{answer_in};
 ghost use Rattle.header.specs.Edition.{is_unknown, header_bytes, other_resolution, no_segments};
 ghost use Rattle.editions.specs.Rates.{sample_rate_of};
-ghost use Rattle.editions.specs.Answer.{line_out, rate_line_out};
+ghost use Rattle.editions.specs.Answer.{rate_line, no_rate_line, rate_line_answer};
 
+use answers::Refusal;
 use header::{EDITION_1985, EDITION_1992};
 use sample_rates::SampleRate;
 
@@ -54,35 +56,39 @@ pub fn sample_rate_of(edition: u64, hz: u64) -> SampleRate
     sample_rates::rate_1985(hz)
 }
 
-// What follows from a rate, beside the refusal: the samples a channel has in a record, the records of a second, and the
-// microseconds from a sample to the next; beside 25, and beside 5 for a number that is no rate of the edition, they are 0.
-#[repr(C)]
+// What follows from a rate: the samples a channel has in a record, the records of a second, and the microseconds from a sample to
+// the next.
 #[derive(Clone, Copy)]
-pub struct RateLineAnswer {
-    pub refusal: u8,
+pub struct RateLine {
     pub samples: u64,
     pub records: u64,
     pub interval_us: u64,
 }
 
-fn line_out(refusal: u8, rate: SampleRate) -> RateLineAnswer
-    ensures { result ≡ line_out refusal rate }
-{
-    let interval_us = sample_rates::interval_us(rate);
-    RateLineAnswer {
-        refusal,
-        samples: rate.samples,
-        records: rate.records,
-        interval_us,
+impl From<SampleRate> for RateLine {
+    ghost from_gives = { λ rate line. line ≡ rate_line rate };
+
+    fn from(rate: SampleRate) -> RateLine {
+        let interval_us = sample_rates::interval_us(rate);
+        RateLine {
+            samples: rate.samples,
+            records: rate.records,
+            interval_us,
+        }
     }
 }
 
-pub fn rate_line(edition: u64, hz: u64) -> RateLineAnswer
-    ensures { result ≡ rate_line_out edition hz }
+// What follows from a rate of the edition, for a caller who has only its number: 25, then 5.
+#[tactic(auto, unfolding(crate::specs::Answer::rate_line_answer))]
+pub fn rate_line(edition: u64, hz: u64) -> Result<RateLine, Refusal>
+    ensures { answer_in no_rate_line result ≡ rate_line_answer edition hz }
 {
     if is_unknown(edition) {
-        return line_out(25, sample_rates::no_rate());
+        return Err(Refusal::NoSuchEdition);
     }
     let rate = sample_rate_of(edition, hz);
-    line_out(answers::check(5, rate.hz == 0, 0), rate)
+    if rate.hz == 0 {
+        return Err(Refusal::NoSuchRate);
+    }
+    Ok(RateLine::from(rate))
 }

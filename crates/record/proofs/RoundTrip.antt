@@ -18,13 +18,14 @@ use Rattle.fields.proofs.Tables.{read-write, write_read, digits-write, length-wr
 use Rattle.header.specs.Rows as row
 use Rattle.header.specs.Edition.{edition_of, fields_of, header_bytes}
 use Rattle.header.proofs.Sound.{fields-sound, sample-rate-read, sync-read}
-use Rattle.answers.specs.Answer.{accepted, told}
+use Rattle.std.specs.Prelude.{Ok}
+use Rattle.answers.specs.Answer.{accepted}
+use Rattle.answers.specs.Refused.{answer_in}
 use Rattle.answers.specs.Refusal.{◌when◌, first}
-use Rattle.record.specs.declared.HeaderAnswer.{HeaderAnswer}
 use Rattle.checks.specs.declared.Judged.{Judged}
 use Rattle.checks.specs.Checks.{checks, judged_of}
 use Rattle.checks.proofs.Accepted.{Accepted, accepted-facts}
-use Rattle.record.specs.Record.{record_refusal, no_values, header_answer, shown_header, write_refusal, after_writing}
+use Rattle.record.specs.Record.{record_refusal, no_values, header_answer, write_refusal, after_writing}
 use Rattle.answers.proofs.Refusals.{then-none, then-zero, cond-none, unless-none, given-value, none-applies}
 use Rattle.record.proofs.Accepted.{record-facts, values-small}
 
@@ -128,15 +129,13 @@ read-is-written n b bytes e =
     )
 
 -- the same of the very values that `read_header` answered: what it gave, `write_header` writes back without changing a byte
-pub answer-is-written : (n : ℕ) (b : List ℕ) (r : HeaderAnswer) → ((k : ℕ) → get_or b k 0 < 256) → shown_header r ≡ header_answer n b
-    → r.refusal ≡ 0
-    → (write_refusal n (length b) r.values ≡ 0) × (after_writing n b r.values ≡ b)
+pub answer-is-written : (n : ℕ) (b v : List ℕ) → ((k : ℕ) → get_or b k 0 < 256) → answer_in no_values (Ok v) ≡ header_answer n b
+    → (write_refusal n (length b) v ≡ 0) × (after_writing n b v ≡ b)
 unfolding header_answer
-answer-is-written n b r bytes e z =
-    let both = given-value (record_refusal n b) no_values (read_all (fields_of n) b) r.values
-    (sym (ap (λ (k : ℕ). told k r.values) z) ∙ e) in
-    subst (λ (v : List ℕ). (write_refusal n (length b) v ≡ 0)
-    × (after_writing n b v ≡ b)) (sym both.1) (read-is-written n b bytes both.0)
+answer-is-written n b v bytes e =
+    let both = given-value (record_refusal n b) no_values (read_all (fields_of n) b) v e in
+    subst (λ (w : List ℕ). (write_refusal n (length b) w ≡ 0)
+    × (after_writing n b w ≡ b)) (sym both.1) (read-is-written n b bytes both.0)
 
 -- bits that no field names keep what they held
 pub unnamed-kept : (n : ℕ) (v b : List ℕ) (i : ℕ) → unnamed i (fields_of n) → bit_at (after_writing n b v) i ≡ bit_at b i

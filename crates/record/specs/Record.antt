@@ -1,14 +1,13 @@
 -- Which records of an edition are accepted, and what is read and written of them. FORMAT, "The record", "Refusal numbers".
 use Rattle.std.specs.Prelude.{ℕ, cond, not, List, [], ◌∷◌, eqb, ltb, length}
 use Rattle.lists.specs.Fill.{tab}
-use Rattle.answers.specs.Answer.{Answer, told, unless}
+use Rattle.answers.specs.Answer.{Answer, unless}
 use Rattle.answers.specs.Refusal.{◌when◌, first, ◌then◌}
 use Rattle.fields.specs.Field.{value_of, decimal_fits, binary_fits}
 use Rattle.fields.specs.Table.{read_all, write_all, all_digits_good, all_fit, value_in}
 use Rattle.header.specs.Format.{field_count}
 use Rattle.header.specs.Edition.{is_unknown, header_bytes, fields_of}
 use Rattle.checks.specs.Checks.{checks, judged_of}
-use Rattle.record.specs.declared.HeaderAnswer.{HeaderAnswer}
 
 -- 25 and 1 to 11 of so many bytes whose header is read from these
 abbrev pub header_refusal : ℕ → List ℕ → ℕ → ℕ
@@ -35,10 +34,6 @@ no_values = tab (λ (k : ℕ). 0) 0 field_count
 -- the values of the header's fields, or the refusal
 unfoldable pub header_answer : ℕ → List ℕ → Answer (List ℕ)
 header_answer n b = unless (record_refusal n b) no_values (read_all (fields_of n) b)
-
--- the number and the values that the code's answer shows
-abbrev pub shown_header : HeaderAnswer → Answer (List ℕ)
-shown_header r = told r.refusal r.values
 
 -- the refusal of values of the edition n to be written into so many bytes, or 0: as a reader would give for those fields, then 22
 unfoldable pub write_refusal : ℕ → ℕ → List ℕ → ℕ

@@ -1,5 +1,5 @@
 // Records of an edition: which are accepted, their header read and written, and their samples' stretch. FORMAT, "The record",
-// "Refusal numbers". Every public function takes any bytes; a refusal is a number, and 0 is none.
+// "Refusal numbers". Every public function takes any bytes.
 #![tactic(auto)]
 
 ghost use Rattle.std.specs.Prelude.{◌≡◌, ◌≤◌, length};
@@ -8,19 +8,14 @@ ghost use Rattle.fields.specs.Table.{all_digits_good, all_fit, value_in};
 ghost use Rattle.header.specs.Edition.{sample_rate, sync_word, fields_of};
 ghost use Rattle.sample_rates.specs.Rates.{most_samples};
 ghost use Rattle.checks.specs.Checks.{judged_of};
-ghost use Rattle.record.specs.Record.{front_refusal, record_refusal, header_answer, shown_header, write_refusal, after_writing};
+ghost use Rattle.answers.specs.Refused.{refusal_in, answer_in};
+ghost use Rattle.record.specs.Record.{front_refusal, record_refusal, no_values, header_answer, write_refusal, after_writing};
 ghost use Rattle.record.specs.Stretch.{record_rate, sample_count, stretch_of};
 
+use answers::Refusal;
 use checks::Judged;
 use header::{EDITION_1992, FIELD_COUNT};
 use sample_rates::SampleRate;
-
-// A header that was read, beside the refusal; with one, every value is 0. An enum cannot hold an array.
-#[derive(Clone, Copy)]
-pub struct HeaderAnswer {
-    pub refusal: u8,
-    pub values: [u64; FIELD_COUNT],
-}
 
 // What the bytes hold of the two fields that are judged and that each edition has in its own place.
 pub fn sample_rate_in(edition: u64, bytes: &[u8]) -> u64
@@ -64,16 +59,17 @@ fn judged(edition: u64, bytes: &[u8]) -> Judged
     }
 }
 
-// The refusal of the bytes as a record of the edition, 25 or 1 to 11, or 0 where they are accepted. The length is tested first,
-// so that no field past this test has to be.
-pub fn refusal_of(edition: u64, bytes: &[u8]) -> u8
-    ensures { result ≡ record_refusal edition bytes.now }
+// Whether the bytes are accepted as a record of the edition, or the refusal, 25 or 1 to 11. The length is tested first, so that no
+// field past this test has to be.
+#[tactic(auto, unfolding(crate::specs::Record::record_refusal))]
+pub fn judge(edition: u64, bytes: &[u8]) -> Result<(), Refusal>
+    ensures { refusal_in result ≡ record_refusal edition bytes.now }
 {
     if editions::is_unknown(edition) {
-        return 25;
+        return Err(Refusal::NoSuchEdition);
     }
     if bytes.len() < editions::header_bytes(edition) {
-        return 1;
+        return Err(Refusal::TooShort);
     }
     checks::first_check(edition, judged(edition, bytes))
 }
@@ -88,36 +84,29 @@ fn judged_by_front(edition: u64, front: &[u8], bytes: usize) -> Judged
     }
 }
 
-// The refusal of so many bytes that begin with these, as a record of the edition: 25 or 1 to 11, or 0 where they are accepted. Who
-// has a record in parts has it judged by the first of them. The length of the front is tested first, so that no field's place is
-// tested after it.
-pub fn refusal_of_front(edition: u64, front: &[u8], bytes: usize) -> u8
-    ensures { result ≡ front_refusal edition front.now bytes }
+// Whether so many bytes that begin with these are accepted as a record of the edition, or the refusal, 25 or 1 to 11. Who has a
+// record in parts has it judged by the first of them. The length of the front is tested first, so that no field's place is tested
+// after it.
+#[tactic(auto, unfolding(crate::specs::Record::front_refusal))]
+pub fn judge_front(edition: u64, front: &[u8], bytes: usize) -> Result<(), Refusal>
+    ensures { refusal_in result ≡ front_refusal edition front.now bytes }
 {
     if editions::is_unknown(edition) {
-        return 25;
+        return Err(Refusal::NoSuchEdition);
     }
     if front.len() < editions::header_bytes(edition) {
-        return 1;
+        return Err(Refusal::TooShort);
     }
     checks::first_check(edition, judged_by_front(edition, front, bytes))
 }
 
 // The header of a record.
-pub fn read_header(edition: u64, bytes: &[u8]) -> HeaderAnswer
-    ensures { shown_header result ≡ header_answer edition bytes.now }
+#[tactic(auto, unfolding(crate::specs::Record::header_answer))]
+pub fn read_header(edition: u64, bytes: &[u8]) -> Result<[u64; FIELD_COUNT], Refusal>
+    ensures { answer_in no_values result ≡ header_answer edition bytes.now }
 {
-    let refusal = refusal_of(edition, bytes);
-    if refusal == 0 {
-        return HeaderAnswer {
-            refusal: 0,
-            values: header::read_values(edition, bytes),
-        };
-    }
-    HeaderAnswer {
-        refusal,
-        values: [0; FIELD_COUNT],
-    }
+    judge(edition, bytes)?;
+    Ok(header::read_values(edition, bytes))
 }
 
 // What 1 to 11 judge of values to be written into this many bytes. The values that are judged have the same places in each
@@ -144,27 +133,32 @@ fn judged_values(edition: u64, bytes: usize, values: [u64; FIELD_COUNT]) -> Judg
     }
 }
 
-// The refusal of values to be written into this many bytes, 25, 1 to 11 or 22, or 0.
-fn judge_writing(edition: u64, bytes: usize, values: [u64; FIELD_COUNT]) -> u8
-    ensures { result ≡ write_refusal edition bytes values }
+// Whether values may be written into this many bytes, or the refusal, 25, 1 to 11 or 22.
+#[tactic(auto, unfolding(crate::specs::Record::write_refusal))]
+fn judge_writing(edition: u64, bytes: usize, values: [u64; FIELD_COUNT]) -> Result<(), Refusal>
+    ensures { refusal_in result ≡ write_refusal edition bytes values }
 {
-    let refusal = checks::first_check(edition, judged_values(edition, bytes, values));
-    let fit = header_fits::binaries_fit(edition, values);
-    answers::first_refusal(refusal, answers::check(22, !fit, 0))
+    checks::first_check(edition, judged_values(edition, bytes, values))?;
+    if header_fits::binaries_fit(edition, values) {
+        return Ok(());
+    }
+    Err(Refusal::ValueTooWide)
 }
 
 // The values go into the header of a record of their length. Bits that no field names and all bytes past the header stay. A
 // list of values has no edition of its own: it is taken for one of the edition named.
-pub fn write_header(edition: u64, bytes: &mut [u8], values: [u64; FIELD_COUNT]) -> u8
-    ensures value { result ≡ write_refusal edition (length bytes.old) values }
+#[tactic(auto, unfolding(crate::specs::Record::after_writing))]
+pub fn write_header(
+    edition: u64,
+    bytes: &mut [u8],
+    values: [u64; FIELD_COUNT],
+) -> Result<(), Refusal>
+    ensures value { refusal_in result ≡ write_refusal edition (length bytes.old) values }
     ensures bytes_after { bytes.new ≡ after_writing edition bytes.old values }
 {
-    let refusal = judge_writing(edition, bytes.len(), values);
-    if refusal == 0 {
-        header_write::write_values(edition, bytes, values);
-        return 0;
-    }
-    refusal
+    judge_writing(edition, bytes.len(), values)?;
+    header_write::write_values(edition, bytes, values);
+    Ok(())
 }
 
 // The line of the table of sample rates that a record's header names; a line of zeros where it is no rate.
@@ -188,7 +182,7 @@ pub fn sample_stretch<'a>(edition: u64, bytes: &'a [u8]) -> &'a [u8]
 {
     let count = sample_count(edition, bytes);
     let header_bytes = editions::header_bytes(edition);
-    let start = lists::lesser(header_bytes, bytes.len());
-    let end = lists::lesser(header_bytes + 4 * count, bytes.len());
+    let start = header_bytes.min(bytes.len());
+    let end = (header_bytes + 4 * count).min(bytes.len());
     &bytes[start..end]
 }

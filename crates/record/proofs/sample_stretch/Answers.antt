@@ -12,7 +12,7 @@ returns c =
     let a = c.args in
     let b = a.bytes.now in
     let w = a.edition in
-    (λ i. take (c.lesser-end.ensures i - c.lesser-start.ensures i) (drop (c.lesser-start.ensures i) b))
+    (λ i. take (c.min-end.ensures i - c.min-start.ensures i) (drop (c.min-start.ensures i) b))
     ∙ (λ i. take (min (c.header_bytes-header_bytes.ensures.0 i + 4 * c.sample_count-count.ensures.0 i) (length b)
     - min (c.header_bytes-header_bytes.ensures.0 i) (length b))
     (drop (min (c.header_bytes-header_bytes.ensures.0 i) (length b)) b))
