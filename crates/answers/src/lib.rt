@@ -3,7 +3,7 @@
 
 ghost use Rattle.std.specs.Prelude.{◌≡◌, cond};
 ghost use Rattle.answers.specs.Refusal.{◌then◌};
-ghost use Rattle.answers.specs.Refused.{number_of};
+ghost use Rattle.answers.specs.Refused.{number_of, refusal_in};
 
 // Why a call gives no value. The numbers are the customer's, and their order in a call is that of FORMAT.
 #[derive(Clone, Copy, Debug, PartialEq, Eq, Hash)]
@@ -44,6 +44,16 @@ impl From<Refusal> for u8 {
 
     fn from(refusal: Refusal) -> u8 {
         refusal as u8
+    }
+}
+
+// The number of the refusal, 0 where nothing is refused.
+pub fn refusal_number<T: Copy>(answer: Result<T, Refusal>) -> u8
+    ensures { result ≡ refusal_in answer }
+{
+    match answer {
+        Ok(_) => 0,
+        Err(refusal) => u8::from(refusal),
     }
 }
 

@@ -1,22 +1,32 @@
 // Answers as C and Rust take them: a struct by value with the refusal's number, and beside a refusal 0 in every other member; of
-// a header, the number alone, and its values in the array lent. Crate `odr` exports the calls; what they hand on is made here,
-// one function for each answer. FORMAT, "Refusal numbers".
+// a header, the number alone, and its values in the array lent. Crate `odr` exports the calls; what they hand on is made here, by
+// a conversion for each answer. They are structs of their own, since an exported function can hand out no generic one. FORMAT,
+// "Refusal numbers".
 #![tactic(auto)]
 
-ghost use Rattle.std.specs.Prelude.{◌≡◌, get_or};
-ghost use Rattle.lists.specs.Fill.{tab};
+ghost use Rattle.std.specs.Prelude.{◌≡◌, [], ◌∷◌, false, pos};
+ghost use Rattle.answers.specs.Answer.{told};
+ghost use Rattle.answers.specs.Refused.{answer_in, answer_by};
+ghost use Rattle.editions.specs.Answer.{no_rate_line};
 ghost use Rattle.record.specs.Record.{header_answer};
-ghost use Rattle.c_answers.specs.Out.{value_or, longest_segment, frequency_rate_out, time_out, phases_out, step_out, open_out, consistency_out, text_out, length_out};
+ghost use Rattle.samples.specs.Totals.{no_totals};
+ghost use Rattle.times.specs.Phases.{shown_phases};
+ghost use Rattle.reel.specs.Shown.{shown_step};
+ghost use Rattle.index_model.specs.Opening.{no_opening};
+ghost use Rattle.index_model.specs.Second.{no_second};
+ghost use Rattle.index_query.specs.Shown.{shown_second};
+ghost use Rattle.index_means.specs.Means.{no_means_each};
+ghost use Rattle.c_answers.specs.Out.{value_or, rate_line_in, second_in, PhasesTold, SegmentTold, StepTold, BadBlockTold};
 
-use block_layout::LengthAnswer;
-use frequency_rate::FrequencyRateAnswer;
+use answers::Refusal;
+use editions::RateLine;
 use header::FIELD_COUNT;
+use index_means::Means;
 use index_model::Opening;
-use index_open::OpenAnswer;
-use index_query::ConsistencyAnswer;
-use listing::ListAnswer;
-use reel::Step;
-use times::{PhaseAnswer, TimeAnswer};
+use index_query::Second;
+use std::ops::Range;
+use times::Phases;
+use totals::{NO_TOTAL, Total};
 
 // What a step answers at the end of a reel: no refusal has this number.
 pub const FINISHED: u8 = 255;
@@ -24,11 +34,59 @@ pub const FINISHED: u8 = 255;
 // Bytes of the longest monitor segment.
 pub const LONGEST_SEGMENT: usize = 2 * segments::MOST_WORDS;
 
+// The refusal's number and the value; 0, and what is empty, the other way round.
+fn told<T: Copy>(answer: Result<T, Refusal>, empty: T) -> (u8, T)
+    ensures { told result.0 result.1 ≡ answer_in empty answer }
+{
+    match answer {
+        Ok(value) => (0, value),
+        Err(refusal) => (u8::from(refusal), empty),
+    }
+}
+
+#[repr(C)]
+#[derive(Clone, Copy)]
+pub struct RateLineOut {
+    pub refusal: u8,
+    pub samples: u64,
+    pub records: u64,
+    pub interval_us: u64,
+}
+
+const NO_RATE_LINE: RateLine = RateLine {
+    samples: 0,
+    records: 0,
+    interval_us: 0,
+};
+
+impl From<Result<RateLine, Refusal>> for RateLineOut {
+    ghost from_gives = { λ answer out. rate_line_in out ≡ answer_in no_rate_line answer };
+
+    fn from(answer: Result<RateLine, Refusal>) -> RateLineOut {
+        let (refusal, line) = told(answer, NO_RATE_LINE);
+        RateLineOut {
+            refusal,
+            samples: line.samples,
+            records: line.records,
+            interval_us: line.interval_us,
+        }
+    }
+}
+
 #[repr(C)]
 #[derive(Clone, Copy)]
 pub struct FrequencyRateOut {
     pub refusal: u8,
     pub units: i64,
+}
+
+impl From<Result<i64, Refusal>> for FrequencyRateOut {
+    ghost from_gives = { λ answer out. told out.refusal out.units ≡ answer_in (pos 0) answer };
+
+    fn from(answer: Result<i64, Refusal>) -> FrequencyRateOut {
+        let (refusal, units) = told(answer, 0);
+        FrequencyRateOut { refusal, units }
+    }
 }
 
 #[repr(C)]
@@ -38,12 +96,84 @@ pub struct TimeOut {
     pub microseconds: i64,
 }
 
+impl From<Result<i64, Refusal>> for TimeOut {
+    ghost from_gives = { λ answer out. told out.refusal out.microseconds ≡ answer_in (pos 0) answer };
+
+    fn from(answer: Result<i64, Refusal>) -> TimeOut {
+        let (refusal, microseconds) = told(answer, 0);
+        TimeOut {
+            refusal,
+            microseconds,
+        }
+    }
+}
+
 #[repr(C)]
 #[derive(Clone, Copy)]
 pub struct PhasesOut {
     pub refusal: u8,
     pub first: f64,
     pub second: f64,
+}
+
+const NO_PHASES: Phases = Phases {
+    first: 0.0,
+    second: 0.0,
+};
+
+impl From<Result<Phases, Refusal>> for PhasesOut {
+    ghost from_gives = { λ answer out. PhasesTold out (answer_by shown_phases [] answer) };
+
+    fn from(answer: Result<Phases, Refusal>) -> PhasesOut {
+        let (refusal, phases) = told(answer, NO_PHASES);
+        PhasesOut {
+            refusal,
+            first: phases.first,
+            second: phases.second,
+        }
+    }
+}
+
+// The totals of channels 1 to 4.
+#[repr(C)]
+#[derive(Clone, Copy)]
+pub struct TotalsOut {
+    pub refusal: u8,
+    pub channels: [Total; 4],
+}
+
+impl From<Result<[Total; 4], Refusal>> for TotalsOut {
+    ghost from_gives = { λ answer out. told out.refusal out.channels ≡ answer_in no_totals answer };
+
+    fn from(answer: Result<[Total; 4], Refusal>) -> TotalsOut {
+        let (refusal, channels) = told(answer, [NO_TOTAL; 4]);
+        TotalsOut { refusal, channels }
+    }
+}
+
+// The segment's bytes are the first `length` ones; 0 follows.
+#[repr(C)]
+#[derive(Clone, Copy)]
+pub struct SegmentOut {
+    pub refusal: u8,
+    pub length: usize,
+    pub bytes: [u8; LONGEST_SEGMENT],
+}
+
+impl<'a> From<Result<&'a [u8], Refusal>> for SegmentOut {
+    ghost from_gives = { λ answer out. SegmentTold out (answer_by (λ s. s.now) [] answer) };
+
+    fn from(answer: Result<&'a [u8], Refusal>) -> SegmentOut {
+        let (refusal, segment) = told(answer, &[]);
+        let mut bytes = [0u8; LONGEST_SEGMENT];
+        let length = segment.len().min(LONGEST_SEGMENT);
+        bytes[..length].copy_from_slice(&segment[..length]);
+        SegmentOut {
+            refusal,
+            length: segment.len(),
+            bytes,
+        }
+    }
 }
 
 // A record from `start` up to `end`; or the end of the reel, 255; or a refusal.
@@ -55,27 +185,31 @@ pub struct StepOut {
     pub end: usize,
 }
 
-#[repr(C)]
-#[derive(Clone, Copy)]
-pub struct OpenOut {
-    pub refusal: u8,
-    pub opening: Opening,
+impl From<Result<Option<Range<usize>>, Refusal>> for StepOut {
+    ghost from_gives = { λ answer out. StepTold out (shown_step answer) };
+
+    fn from(answer: Result<Option<Range<usize>>, Refusal>) -> StepOut {
+        match answer {
+            Ok(Some(record)) => StepOut {
+                answer: 0,
+                start: record.start,
+                end: record.end,
+            },
+            Ok(None) => StepOut {
+                answer: FINISHED,
+                start: 0,
+                end: 0,
+            },
+            Err(refusal) => StepOut {
+                answer: u8::from(refusal),
+                start: 0,
+                end: 0,
+            },
+        }
+    }
 }
 
-#[repr(C)]
-#[derive(Clone, Copy)]
-pub struct ConsistencyOut {
-    pub refusal: u8,
-    pub consistent: bool,
-}
-
-#[repr(C)]
-#[derive(Clone, Copy)]
-pub struct TextOut {
-    pub refusal: u8,
-    pub length: usize,
-}
-
+// The length of a text that was written, or how many bytes export or import wrote.
 #[repr(C)]
 #[derive(Clone, Copy)]
 pub struct LengthOut {
@@ -83,80 +217,39 @@ pub struct LengthOut {
     pub length: usize,
 }
 
-// The values of a record's header go into the array lent, and only where the record is accepted. They go there as they are read:
-// an answer by value would copy them.
-pub fn header_into(edition: u64, bytes: &[u8], values: &mut [u64; FIELD_COUNT]) -> u8
-    ensures value { result ≡ (header_answer edition bytes.now).number }
-    ensures values_after { values.new ≡ value_or values.old (header_answer edition bytes.now) }
-{
-    let refusal = record::refusal_of(edition, bytes);
-    if refusal == 0 {
-        header::read_into(edition, bytes, values);
-    }
-    refusal
-}
+impl From<Result<usize, Refusal>> for LengthOut {
+    ghost from_gives = { λ answer out. told out.refusal out.length ≡ answer_in 0 answer };
 
-pub fn frequency_rate_out(answer: FrequencyRateAnswer) -> FrequencyRateOut
-    ensures { result ≡ frequency_rate_out answer }
-{
-    match answer {
-        FrequencyRateAnswer::Units(units) => FrequencyRateOut { refusal: 0, units },
-        FrequencyRateAnswer::Refused(refusal) => FrequencyRateOut { refusal, units: 0 },
+    fn from(answer: Result<usize, Refusal>) -> LengthOut {
+        let (refusal, length) = told(answer, 0);
+        LengthOut { refusal, length }
     }
 }
 
-pub fn time_out(answer: TimeAnswer) -> TimeOut
-    ensures { result ≡ time_out answer }
-{
-    match answer {
-        TimeAnswer::Microseconds(microseconds) => TimeOut {
-            refusal: 0,
-            microseconds,
-        },
-        TimeAnswer::Refused(refusal) => TimeOut {
-            refusal,
-            microseconds: 0,
-        },
+// A block whose check is bad; 0 beside none.
+#[repr(C)]
+#[derive(Clone, Copy)]
+pub struct BadBlockOut {
+    pub found: bool,
+    pub index: usize,
+}
+
+impl From<Option<usize>> for BadBlockOut {
+    ghost from_gives = { λ answer out. BadBlockTold out answer };
+
+    fn from(answer: Option<usize>) -> BadBlockOut {
+        BadBlockOut {
+            found: answer.is_some(),
+            index: answer.unwrap_or(0),
+        }
     }
 }
 
-pub fn phases_out(answer: PhaseAnswer) -> PhasesOut
-    ensures { result ≡ phases_out answer }
-{
-    match answer {
-        PhaseAnswer::Cycles { first, second } => PhasesOut {
-            refusal: 0,
-            first,
-            second,
-        },
-        PhaseAnswer::Refused(refusal) => PhasesOut {
-            refusal,
-            first: 0.0,
-            second: 0.0,
-        },
-    }
-}
-
-pub fn step_out(answer: Step) -> StepOut
-    ensures { result ≡ step_out answer }
-{
-    match answer {
-        Step::Record { start, end } => StepOut {
-            answer: 0,
-            start,
-            end,
-        },
-        Step::Finished => StepOut {
-            answer: FINISHED,
-            start: 0,
-            end: 0,
-        },
-        Step::Refused(number) => StepOut {
-            answer: number,
-            start: 0,
-            end: 0,
-        },
-    }
+#[repr(C)]
+#[derive(Clone, Copy)]
+pub struct OpenOut {
+    pub refusal: u8,
+    pub opening: Opening,
 }
 
 // Beside a refusal: 0 throughout.
@@ -173,75 +266,102 @@ const NO_OPENING: Opening = Opening {
     spc: 0,
 };
 
-pub fn open_out(answer: OpenAnswer) -> OpenOut
-    ensures { result ≡ open_out answer }
-{
-    match answer {
-        OpenAnswer::Opened(opening) => OpenOut {
-            refusal: 0,
-            opening,
-        },
-        OpenAnswer::Refused(refusal) => OpenOut {
-            refusal,
-            opening: NO_OPENING,
-        },
+impl From<Result<Opening, Refusal>> for OpenOut {
+    ghost from_gives = { λ answer out. told out.refusal out.opening ≡ answer_in no_opening answer };
+
+    fn from(answer: Result<Opening, Refusal>) -> OpenOut {
+        let (refusal, opening) = told(answer, NO_OPENING);
+        OpenOut { refusal, opening }
     }
 }
 
-pub fn consistency_out(answer: ConsistencyAnswer) -> ConsistencyOut
-    ensures { result ≡ consistency_out answer }
-{
-    match answer {
-        ConsistencyAnswer::Consistent(consistent) => ConsistencyOut {
-            refusal: 0,
+// A second's totals and verdict.
+#[repr(C)]
+#[derive(Clone, Copy)]
+pub struct SecondOut {
+    pub refusal: u8,
+    pub records: u32,
+    pub origins: u32,
+    pub errors: u32,
+    pub channels: [Total; 4],
+    pub kept: bool,
+}
+
+const NO_SECOND: Second = Second {
+    records: 0,
+    origins: 0,
+    errors: 0,
+    channels: [NO_TOTAL; 4],
+    kept: false,
+};
+
+impl From<Result<Second, Refusal>> for SecondOut {
+    ghost from_gives = { λ answer out. second_in out ≡ answer_by shown_second no_second answer };
+
+    fn from(answer: Result<Second, Refusal>) -> SecondOut {
+        let (refusal, second) = told(answer, NO_SECOND);
+        SecondOut {
+            refusal,
+            records: second.records,
+            origins: second.origins,
+            errors: second.errors,
+            channels: second.channels,
+            kept: second.kept,
+        }
+    }
+}
+
+// The means of channels 1 to 4.
+#[repr(C)]
+#[derive(Clone, Copy)]
+pub struct MeansOut {
+    pub refusal: u8,
+    pub channels: [Means; 4],
+}
+
+const NO_MEANS: Means = Means {
+    mean: 0.0,
+    mean_square: 0.0,
+};
+
+impl From<Result<[Means; 4], Refusal>> for MeansOut {
+    ghost from_gives = { λ answer out. told out.refusal out.channels ≡ answer_in no_means_each answer };
+
+    fn from(answer: Result<[Means; 4], Refusal>) -> MeansOut {
+        let (refusal, channels) = told(answer, [NO_MEANS; 4]);
+        MeansOut { refusal, channels }
+    }
+}
+
+#[repr(C)]
+#[derive(Clone, Copy)]
+pub struct ConsistencyOut {
+    pub refusal: u8,
+    pub consistent: bool,
+}
+
+impl From<Result<bool, Refusal>> for ConsistencyOut {
+    ghost from_gives = { λ answer out. told out.refusal out.consistent ≡ answer_in false answer };
+
+    fn from(answer: Result<bool, Refusal>) -> ConsistencyOut {
+        let (refusal, consistent) = told(answer, false);
+        ConsistencyOut {
+            refusal,
             consistent,
-        },
-        ConsistencyAnswer::Refused(refusal) => ConsistencyOut {
-            refusal,
-            consistent: false,
-        },
+        }
     }
 }
 
-// The length of a text that was written, or the refusal.
-pub fn text_out(answer: ListAnswer) -> TextOut
-    ensures { result ≡ text_out answer }
+// The values of a record's header go into the array lent, and only where the record is accepted. They go there as they are read:
+// an answer by value would copy them.
+#[tactic(auto, unfolding(record::specs::Record::header_answer))]
+pub fn header_into(edition: u64, bytes: &[u8], values: &mut [u64; FIELD_COUNT]) -> u8
+    ensures value { result ≡ (header_answer edition bytes.now).number }
+    ensures values_after { values.new ≡ value_or values.old (header_answer edition bytes.now) }
 {
-    match answer {
-        ListAnswer::Length(length) => TextOut { refusal: 0, length },
-        ListAnswer::Refused(refusal) => TextOut { refusal, length: 0 },
+    let judged = record::judge(edition, bytes);
+    if judged.is_ok() {
+        header::read_into(edition, bytes, values);
     }
-}
-
-// How many bytes export or import wrote, or the refusal.
-pub fn length_out(answer: LengthAnswer) -> LengthOut
-    ensures { result ≡ length_out answer }
-{
-    match answer {
-        LengthAnswer::Length(length) => LengthOut { refusal: 0, length },
-        LengthAnswer::Refused(refusal) => LengthOut { refusal, length: 0 },
-    }
-}
-
-// The byte at a place, 0 past the end.
-fn byte_at(bytes: &[u8], k: usize) -> u8
-    ensures { result ≡ get_or bytes.now k 0 }
-{
-    if k < bytes.len() {
-        return bytes[k];
-    }
-    0
-}
-
-// The bytes of a segment, and then 0.
-pub fn segment_bytes(bytes: &[u8]) -> [u8; LONGEST_SEGMENT]
-    ensures { result ≡ tab (λ k. get_or bytes.now k 0) 0 longest_segment }
-{
-    let mut copy = [0u8; LONGEST_SEGMENT];
-    let mut k: usize = 0;
-    while k < LONGEST_SEGMENT {
-        copy[k] = byte_at(bytes, k);
-        k += 1;
-    }
-    copy
+    answers::refusal_number(judged)
 }

@@ -5,11 +5,11 @@
 
 ghost use Rattle.std.specs.Prelude.{◌≡◌, length};
 ghost use Rattle.answers.specs.Answer.{told};
-ghost use Rattle.editions.specs.Answer.{rate_line_out};
+ghost use Rattle.editions.specs.Answer.{rate_line_answer};
 ghost use Rattle.record.specs.Record.{record_refusal, header_answer, write_refusal, after_writing};
 ghost use Rattle.frequency_rate.specs.FrequencyRate.{frequency_rate_answer};
 ghost use Rattle.samples.specs.InOut.{samples_refusal, channel_after, record_after};
-ghost use Rattle.samples.specs.Totals.{totals_answer, shown_totals};
+ghost use Rattle.samples.specs.Totals.{totals_answer};
 ghost use Rattle.times.specs.SampleTime.{time_answer};
 ghost use Rattle.times.specs.Phases.{phase_answer};
 ghost use Rattle.segments.specs.Question.{segment_answer};
@@ -23,33 +23,16 @@ ghost use Rattle.index_model.specs.Records.{in_edition};
 ghost use Rattle.index_model.specs.Buffers.{lent};
 ghost use Rattle.index_model.specs.Opening.{open_answer, opened};
 ghost use Rattle.index_model.specs.Calls.{insert_refusal, inserted, remove_refusal, removed, query_answer, consistency_answer};
-ghost use Rattle.index_query.specs.Shown.{shown_second};
 ghost use Rattle.index_means.specs.Means.{means_answer};
-ghost use Rattle.index_means.specs.Shown.{shown_means};
 ghost use Rattle.listing.specs.Listing.{line_answer, line_after, list_answer, list_after};
-ghost use Rattle.c_answers.specs.Out.{value_or};
-ghost use Rattle.odr.specs.Out.{PhasesTold, SegmentTold, StepTold};
+ghost use Rattle.c_answers.specs.Out.{value_or, rate_line_in, second_in, PhasesTold, SegmentTold, StepTold, BadBlockTold};
 
-use block_import::BadBlock;
 use c_answers::{
-    ConsistencyOut, FrequencyRateOut, LONGEST_SEGMENT, LengthOut, OpenOut, PhasesOut, StepOut,
-    TextOut, TimeOut,
+    BadBlockOut, ConsistencyOut, FrequencyRateOut, LengthOut, MeansOut, OpenOut, PhasesOut,
+    RateLineOut, SecondOut, SegmentOut, StepOut, TimeOut, TotalsOut,
 };
-use editions::RateLineAnswer;
 use header::FIELD_COUNT;
-use index_means::MeansAnswer;
 use index_model::Opening;
-use index_query::SecondAnswer;
-use samples::TotalsAnswer;
-
-// The segment's bytes are the first `length` ones; 0 follows.
-#[repr(C)]
-#[derive(Clone, Copy)]
-pub struct SegmentOut {
-    pub refusal: u8,
-    pub length: usize,
-    pub bytes: [u8; LONGEST_SEGMENT],
-}
 
 // ## Records
 
@@ -58,16 +41,16 @@ pub struct SegmentOut {
 pub extern "C" fn odr_refusal(edition: u64, bytes: &[u8]) -> u8
     ensures { result ≡ record_refusal edition bytes.now }
 {
-    record::refusal_of(edition, bytes)
+    answers::refusal_number(record::judge(edition, bytes))
 }
 
 // What follows from a sample rate: the samples a channel has in a record, the records of a second, the microseconds from a
 // sample to the next. 25; 5 for a number that is no rate of the edition.
 #[unsafe(no_mangle)]
-pub extern "C" fn odr_sample_rate(edition: u64, hz: u64) -> RateLineAnswer
-    ensures { result ≡ rate_line_out edition hz }
+pub extern "C" fn odr_sample_rate(edition: u64, hz: u64) -> RateLineOut
+    ensures { rate_line_in result ≡ rate_line_answer edition hz }
 {
-    editions::rate_line(edition, hz)
+    RateLineOut::from(editions::rate_line(edition, hz))
 }
 
 // The values of a record's header, in the order of the edition's table, into the array lent.
@@ -89,7 +72,7 @@ pub extern "C" fn odr_write_header(
     ensures value { result ≡ write_refusal edition (length bytes.old) values.now }
     ensures bytes_after { bytes.new ≡ after_writing edition bytes.old values.now }
 {
-    record::write_header(edition, bytes, *values)
+    answers::refusal_number(record::write_header(edition, bytes, *values))
 }
 
 // The frequency rate of a record, in units of 0.00001 Hz/s.
@@ -97,7 +80,7 @@ pub extern "C" fn odr_write_header(
 pub extern "C" fn odr_frequency_rate(edition: u64, bytes: &[u8]) -> FrequencyRateOut
     ensures { told result.refusal result.units ≡ frequency_rate_answer edition bytes.now }
 {
-    c_answers::frequency_rate_out(frequency_rate::frequency_rate(edition, bytes))
+    FrequencyRateOut::from(frequency_rate::frequency_rate(edition, bytes))
 }
 
 // The time of sample k of a record, in microseconds from 0 h of its day, below zero on the day before.
@@ -105,7 +88,7 @@ pub extern "C" fn odr_frequency_rate(edition: u64, bytes: &[u8]) -> FrequencyRat
 pub extern "C" fn odr_sample_time(edition: u64, bytes: &[u8], k: u64) -> TimeOut
     ensures { told result.refusal result.microseconds ≡ time_answer edition bytes.now k }
 {
-    c_answers::time_out(times::sample_time(edition, bytes, k))
+    TimeOut::from(times::sample_time(edition, bytes, k))
 }
 
 // The two phases of a record, in cycles.
@@ -113,7 +96,7 @@ pub extern "C" fn odr_sample_time(edition: u64, bytes: &[u8], k: u64) -> TimeOut
 pub extern "C" fn odr_phases(edition: u64, bytes: &[u8]) -> PhasesOut
     ensures { PhasesTold result (phase_answer edition bytes.now) }
 {
-    c_answers::phases_out(times::phases(edition, bytes))
+    PhasesOut::from(times::phases(edition, bytes))
 }
 
 // The samples of a record, out to the buffers of channels 1 to 4.
@@ -132,7 +115,9 @@ pub extern "C" fn odr_read_samples(
     ensures three_after { three.new ≡ channel_after result edition bytes.now 3 three.old }
     ensures four_after { four.new ≡ channel_after result edition bytes.now 4 four.old }
 {
-    samples::read_samples(edition, bytes, one, two, three, four)
+    answers::refusal_number(samples::read_samples(
+        edition, bytes, one, two, three, four,
+    ))
 }
 
 // The samples of channels 1 to 4, into the sample stretch of a record.
@@ -148,15 +133,17 @@ pub extern "C" fn odr_write_samples(
     ensures value { result ≡ samples_refusal edition bytes.old (length one.now) (length two.now) (length three.now) (length four.now) }
     ensures bytes_after { bytes.new ≡ record_after result edition bytes.old one.now two.now three.now four.now }
 {
-    samples::write_samples(edition, bytes, one, two, three, four)
+    answers::refusal_number(samples::write_samples(
+        edition, bytes, one, two, three, four,
+    ))
 }
 
 // The totals of a record's samples, for each channel.
 #[unsafe(no_mangle)]
-pub extern "C" fn odr_totals(edition: u64, bytes: &[u8]) -> TotalsAnswer
-    ensures { shown_totals result ≡ totals_answer edition bytes.now }
+pub extern "C" fn odr_totals(edition: u64, bytes: &[u8]) -> TotalsOut
+    ensures { told result.refusal result.channels ≡ totals_answer edition bytes.now }
 {
-    samples::record_totals(edition, bytes)
+    TotalsOut::from(samples::record_totals(edition, bytes))
 }
 
 // The bytes of a monitor segment, from this record or from the earlier one, both of the edition.
@@ -169,13 +156,7 @@ pub extern "C" fn odr_segment<'a>(
 ) -> SegmentOut
     ensures { SegmentTold result (segment_answer edition this_record.now earlier.now number) }
 {
-    let segment = segments::segment(edition, this_record, earlier, number);
-    let bytes = c_answers::segment_bytes(segment);
-    SegmentOut {
-        refusal: segments::segment_refusal(edition, this_record, earlier, number),
-        length: segment.len(),
-        bytes,
-    }
+    SegmentOut::from(segments::segment(edition, this_record, earlier, number))
 }
 
 // ## Reels
@@ -186,7 +167,7 @@ pub extern "C" fn odr_segment<'a>(
 pub extern "C" fn odr_step(edition: u64, reel: &[u8], place: usize) -> StepOut
     ensures { StepTold result (step_at edition reel.now place) }
 {
-    c_answers::step_out(reel::step_by_reader(edition, reel, place))
+    StepOut::from(reel::step_by_reader(edition, reel, place))
 }
 
 // ## Blocks
@@ -197,7 +178,7 @@ pub extern "C" fn odr_export(edition: u64, source: &[u8], out: &mut [u8]) -> Len
     ensures length_value { told result.refusal result.length ≡ length_answer (export_refusal edition source.now (length out.old)) (exported_of source.now) }
     ensures out_after { out.new ≡ buffer_after (export_refusal edition source.now (length out.old)) (exported_of source.now) out.old }
 {
-    c_answers::length_out(block_export::export_record(edition, source, out))
+    LengthOut::from(block_export::export_record(edition, source, out))
 }
 
 // One of them alone: that part of the whole export.
@@ -211,7 +192,7 @@ pub extern "C" fn odr_export_block(
     ensures length_value { told result.refusal result.length ≡ length_answer (block_refusal edition source.now index (length out.old)) (block_at (exported_of source.now) index) }
     ensures out_after { out.new ≡ buffer_after (block_refusal edition source.now index (length out.old)) (block_at (exported_of source.now) index) out.old }
 {
-    c_answers::length_out(block_export::export_block(edition, source, index, out))
+    LengthOut::from(block_export::export_block(edition, source, index, out))
 }
 
 // The record of the edition that blocks carry, at the start of the buffer lent.
@@ -220,15 +201,15 @@ pub extern "C" fn odr_import(edition: u64, blocks: &[u8], out: &mut [u8]) -> Len
     ensures length_value { told result.refusal result.length ≡ length_answer (import_refusal edition blocks.now (length out.old)) (carried_of blocks.now) }
     ensures out_after { out.new ≡ buffer_after (import_refusal edition blocks.now (length out.old)) (carried_of blocks.now) out.old }
 {
-    c_answers::length_out(block_import::import_record(edition, blocks, out))
+    LengthOut::from(block_import::import_record(edition, blocks, out))
 }
 
 // The first whole block whose check is bad, to be asked for again.
 #[unsafe(no_mangle)]
-pub extern "C" fn odr_bad_block(blocks: &[u8]) -> BadBlock
-    ensures { result ≡ bad_block blocks.now }
+pub extern "C" fn odr_bad_block(blocks: &[u8]) -> BadBlockOut
+    ensures { BadBlockTold result (bad_block blocks.now) }
 {
-    block_import::bad_block(blocks)
+    BadBlockOut::from(block_import::bad_block(blocks))
 }
 
 // ## The index of seconds
@@ -248,7 +229,7 @@ pub extern "C" fn odr_open(
     ensures rows_after { rows.new ≡ (opened (in_edition edition pattern.now) first_second second_count highest_number (lent rows.old seconds.old)).rows }
     ensures seconds_after { seconds.new ≡ (opened (in_edition edition pattern.now) first_second second_count highest_number (lent rows.old seconds.old)).seconds }
 {
-    c_answers::open_out(index_open::open(
+    OpenOut::from(index_open::open(
         edition,
         pattern,
         first_second,
@@ -272,7 +253,9 @@ pub extern "C" fn odr_insert(
     ensures rows_after { rows.new ≡ (inserted opening (in_edition edition bytes.now) (lent rows.old seconds.old)).rows }
     ensures seconds_after { seconds.new ≡ (inserted opening (in_edition edition bytes.now) (lent rows.old seconds.old)).seconds }
 {
-    index_update::insert(opening, edition, bytes, rows, seconds)
+    answers::refusal_number(index_update::insert(
+        opening, edition, bytes, rows, seconds,
+    ))
 }
 
 // Removes the record of a number.
@@ -287,7 +270,7 @@ pub extern "C" fn odr_remove(
     ensures rows_after { rows.new ≡ (removed opening number (lent rows.old seconds.old)).rows }
     ensures seconds_after { seconds.new ≡ (removed opening number (lent rows.old seconds.old)).seconds }
 {
-    index_update::remove(opening, number, rows, seconds)
+    answers::refusal_number(index_update::remove(opening, number, rows, seconds))
 }
 
 // The totals and the verdict of a second.
@@ -297,10 +280,10 @@ pub extern "C" fn odr_query(
     second: u64,
     rows: &[u32],
     seconds: &[u32],
-) -> SecondAnswer
-    ensures { shown_second result ≡ query_answer opening second (lent rows.now seconds.now) }
+) -> SecondOut
+    ensures { second_in result ≡ query_answer opening second (lent rows.now seconds.now) }
 {
-    index_query::query(opening, second, rows, seconds)
+    SecondOut::from(index_query::query(opening, second, rows, seconds))
 }
 
 // The mean and the mean square of each channel of a second.
@@ -310,10 +293,10 @@ pub extern "C" fn odr_second_means(
     second: u64,
     rows: &[u32],
     seconds: &[u32],
-) -> MeansAnswer
-    ensures { shown_means result ≡ means_answer opening second (lent rows.now seconds.now) }
+) -> MeansOut
+    ensures { told result.refusal result.channels ≡ means_answer opening second (lent rows.now seconds.now) }
 {
-    index_means::second_means(opening, second, rows, seconds)
+    MeansOut::from(index_means::second_means(opening, second, rows, seconds))
 }
 
 // Whether the cells are those that the rows give, and no row lies outside the window.
@@ -325,25 +308,25 @@ pub extern "C" fn odr_is_consistent(
 ) -> ConsistencyOut
     ensures { told result.refusal result.consistent ≡ consistency_answer opening (lent rows.now seconds.now) }
 {
-    c_answers::consistency_out(index_query::is_consistent(opening, rows, seconds))
+    ConsistencyOut::from(index_query::is_consistent(opening, rows, seconds))
 }
 
 // ## Text
 
 // The line of one record, into the buffer lent.
 #[unsafe(no_mangle)]
-pub extern "C" fn odr_record_line(bytes: &[u8], text: &mut [u8]) -> TextOut
+pub extern "C" fn odr_record_line(bytes: &[u8], text: &mut [u8]) -> LengthOut
     ensures length_value { told result.refusal result.length ≡ line_answer bytes.now text.old }
     ensures text_after { text.new ≡ line_after bytes.now text.old }
 {
-    c_answers::text_out(listing::record_line(bytes, text))
+    LengthOut::from(listing::record_line(bytes, text))
 }
 
 // The listing of a reel, into the buffer lent.
 #[unsafe(no_mangle)]
-pub extern "C" fn odr_list(input: &[u8], text: &mut [u8]) -> TextOut
+pub extern "C" fn odr_list(input: &[u8], text: &mut [u8]) -> LengthOut
     ensures length_value { told result.refusal result.length ≡ list_answer input.now text.old }
     ensures text_after { text.new ≡ list_after input.now text.old }
 {
-    c_answers::text_out(listing::list_reel(input, text))
+    LengthOut::from(listing::list_reel(input, text))
 }

@@ -2,26 +2,19 @@
 // number, 0 for none. The others are proved in crate `worked_cases`.
 #![tactic(auto)]
 
+use answers::{Refusal, refusal_number};
 use header::{EDITION_1985, EDITION_1992};
 use index_model::{Opening, WIDTH};
-use index_open::OpenAnswer;
-use index_query::ConsistencyAnswer;
 use std::io;
 
 // Bytes of the lister's case: 390 words.
 const CASE_BYTES: usize = 780;
 
-// A word of the record, counted from 1, gets its value.
-fn set_word(bytes: &mut [u8; CASE_BYTES], word: usize, value: u16) {
-    if word > CASE_BYTES / 2 {
-        return;
+// A word of a record, counted from 1, gets its value.
+fn set_word(bytes: &mut [u8], word: usize, value: u16) {
+    if 1 <= word && word <= bytes.len() / 2 {
+        bytes[2 * (word - 1)..2 * word].copy_from_slice(&value.to_be_bytes());
     }
-    if word == 0 {
-        return;
-    }
-    let at = 2 * (word - 1);
-    bytes[at] = (value / 256) as u8;
-    bytes[at + 1] = (value % 256) as u8;
 }
 
 // The lister's case: an accepted record of 390 words at 200 samples a second.
@@ -45,30 +38,29 @@ fn print_line(rt: &impl Print, asked: &str, number: u8) -> io::Result<()> {
     println!(rt; "{asked}{number}")
 }
 
-fn refusal_of(bytes: &[u8; CASE_BYTES]) -> u8 {
-    record::refusal_of(EDITION_1985, bytes)
+fn refusal_of(edition: u64, bytes: &[u8]) -> u8 {
+    refusal_number(record::judge(edition, bytes))
 }
 
 // A record of this date, read. Word 6 holds the year in its first seven bits and the day in the other nine.
 fn refusal_read(date: u16) -> u8 {
     let mut bytes = lister_case();
     set_word(&mut bytes, 6, date);
-    refusal_of(&bytes)
+    refusal_of(EDITION_1985, &bytes)
 }
 
 // A header of this date, written.
-fn refusal_written(date: u16) -> u8 {
+fn write_date(date: u16) -> Result<(), Refusal> {
     let mut bytes = lister_case();
-    let answer = record::read_header(EDITION_1985, &bytes);
-    let mut values = answer.values;
-    values[header::AT_YEAR] = (date / 512) as u64;
-    values[header::AT_DAY] = (date % 512) as u64;
+    let mut values = record::read_header(EDITION_1985, &bytes)?;
+    values[header::AT_YEAR] = u64::from(date / 512);
+    values[header::AT_DAY] = u64::from(date % 512);
     record::write_header(EDITION_1985, &mut bytes, values)
 }
 
 fn print_date(rt: &impl Print, asked: &str, date: u16) -> io::Result<()> {
     print_line(rt, asked, refusal_read(date))?;
-    print_line(rt, "  written: ", refusal_written(date))
+    print_line(rt, "  written: ", refusal_number(write_date(date)))
 }
 
 // At 200 samples a second two records fill a second: the refusals of the first, the second and the third that are inserted.
@@ -82,36 +74,29 @@ fn print_inserts(
     print_line(
         rt,
         "record 1 of a second: ",
-        index_update::insert(o, EDITION_1985, &bytes, rows, seconds),
+        insert(o, &bytes, rows, seconds),
     )?;
     set_word(&mut bytes, 2, 2);
     print_line(
         rt,
         "record 2 of the second: ",
-        insert_again(o, &bytes, rows, seconds),
+        insert(o, &bytes, rows, seconds),
     )?;
     set_word(&mut bytes, 2, 3);
     print_line(
         rt,
         "record 3 of the second: ",
-        insert_again(o, &bytes, rows, seconds),
+        insert(o, &bytes, rows, seconds),
     )
 }
 
-fn insert_again(
+fn insert(
     o: Opening,
     bytes: &[u8; CASE_BYTES],
     rows: &mut [u32; 3 * WIDTH],
     seconds: &mut [u32; WIDTH],
 ) -> u8 {
-    index_update::insert(o, EDITION_1985, bytes, rows, seconds)
-}
-
-fn refusal_of_test(o: Opening, rows: &[u32; 3 * WIDTH], seconds: &[u32; WIDTH]) -> u8 {
-    match index_query::is_consistent(o, rows, seconds) {
-        ConsistencyAnswer::Consistent(_) => 0,
-        ConsistencyAnswer::Refused(n) => n,
-    }
+    refusal_number(index_update::insert(o, EDITION_1985, bytes, rows, seconds))
 }
 
 // The refusals of the calls after opening, with this value of an opening: record 1 and its second are those of `print_inserts`.
@@ -122,29 +107,30 @@ fn print_later(
     seconds: &mut [u32; WIDTH],
 ) -> io::Result<()> {
     let bytes = lister_case();
-    print_line(rt, "  insert: ", insert_again(o, &bytes, rows, seconds))?;
-    print_line(rt, "  remove: ", index_update::remove(o, 1, rows, seconds))?;
+    print_line(rt, "  insert: ", insert(o, &bytes, rows, seconds))?;
+    print_line(
+        rt,
+        "  remove: ",
+        refusal_number(index_update::remove(o, 1, rows, seconds)),
+    )?;
     print_line(
         rt,
         "  query: ",
-        index_query::query(o, 43_200, rows, seconds).refusal,
+        refusal_number(index_query::query(o, 43_200, rows, seconds)),
     )?;
-    print_line(rt, "  test: ", refusal_of_test(o, rows, seconds))
+    print_line(
+        rt,
+        "  test: ",
+        refusal_number(index_query::is_consistent(o, rows, seconds)),
+    )
 }
 
 // The value of an opening, but for its date: day 366 of a year.
 fn holding_day_366(o: Opening, year: u64) -> Opening {
     Opening {
-        first_second: o.first_second,
-        second_count: o.second_count,
-        highest_number: o.highest_number,
-        edition: o.edition,
-        sample_rate_hz: o.sample_rate_hz,
-        tape_number: o.tape_number,
         year,
         day: 366,
-        spacecraft: o.spacecraft,
-        spc: o.spc,
+        ..o
     }
 }
 
@@ -185,45 +171,33 @@ fn fill_a_second(rt: &impl Print) -> io::Result<()> {
         &mut rows,
         &mut seconds,
     ) {
-        OpenAnswer::Opened(o) => print_calls(rt, o, &mut rows, &mut seconds),
-        OpenAnswer::Refused(n) => print_line(rt, "opening refused: ", n),
+        Ok(o) => print_calls(rt, o, &mut rows, &mut seconds),
+        Err(refusal) => print_line(rt, "opening refused: ", u8::from(refusal)),
     }
 }
 
 // Bytes of the longest record of 1992: 2083 words.
 const LONGEST_1992: usize = 4_166;
 
-fn set_word_1992(bytes: &mut [u8; LONGEST_1992], word: usize, value: u16) {
-    if word > LONGEST_1992 / 2 {
-        return;
-    }
-    if word == 0 {
-        return;
-    }
-    let at = 2 * (word - 1);
-    bytes[at] = (value / 256) as u8;
-    bytes[at + 1] = (value % 256) as u8;
-}
-
 // A record of 1992 of this rate and length, with the lister's case's date and time; bytes past its length follow it.
 fn case_1992(hz: u16, words: u16) -> [u8; LONGEST_1992] {
     let mut bytes = [0u8; LONGEST_1992];
-    set_word_1992(&mut bytes, 1, 0x9101);
-    set_word_1992(&mut bytes, 2, 0x0001);
-    set_word_1992(&mut bytes, 3, words);
-    set_word_1992(&mut bytes, 6, 0xAC18);
-    set_word_1992(&mut bytes, 7, 0x0293);
-    set_word_1992(&mut bytes, 8, 0x2E00);
-    set_word_1992(&mut bytes, 80, hz);
-    set_word_1992(&mut bytes, 81, 0xA55A);
+    set_word(&mut bytes, 1, 0x9101);
+    set_word(&mut bytes, 2, 0x0001);
+    set_word(&mut bytes, 3, words);
+    set_word(&mut bytes, 6, 0xAC18);
+    set_word(&mut bytes, 7, 0x0293);
+    set_word(&mut bytes, 8, 0x2E00);
+    set_word(&mut bytes, 80, hz);
+    set_word(&mut bytes, 81, 0xA55A);
     bytes
 }
 
 // The refusal of such a record, as one of an edition.
 fn refusal_1992(edition: u64, hz: u16, words: u16) -> u8 {
     let bytes = case_1992(hz, words);
-    let size = lists::lesser(2 * words as usize, LONGEST_1992);
-    record::refusal_of(edition, &bytes[0..size])
+    let size = (2 * usize::from(words)).min(LONGEST_1992);
+    refusal_of(edition, &bytes[0..size])
 }
 
 fn print_length(rt: &impl Print, hz: u16, words: u16) -> io::Result<()> {
@@ -231,30 +205,34 @@ fn print_length(rt: &impl Print, hz: u16, words: u16) -> io::Result<()> {
     println!(rt; "{hz} a second, {words} words: {number}")
 }
 
-// Table 1 of 1992: a record of each rate and its length.
-fn print_fast_lengths(rt: &impl Print) -> io::Result<()> {
-    print_length(rt, 50_000, 2083)?;
-    print_length(rt, 31_250, 1333)?;
-    print_length(rt, 25_000, 2083)?;
-    print_length(rt, 20_000, 2083)?;
-    print_length(rt, 15_625, 1333)?;
-    print_length(rt, 12_500, 1333)?;
-    print_length(rt, 10_000, 2083)?;
-    print_length(rt, 6_250, 1333)?;
-    print_length(rt, 5_000, 2083)
-}
+// Table 1 of 1992: each rate, and the length in words of its record.
+const LENGTHS_1992: [(u16, u16); 19] = [
+    (50_000, 2083),
+    (31_250, 1333),
+    (25_000, 2083),
+    (20_000, 2083),
+    (15_625, 1333),
+    (12_500, 1333),
+    (10_000, 2083),
+    (6_250, 1333),
+    (5_000, 2083),
+    (4_000, 2083),
+    (3_125, 1333),
+    (2_500, 1333),
+    (2_000, 2083),
+    (1_250, 1333),
+    (1_000, 1083),
+    (500, 583),
+    (400, 483),
+    (250, 333),
+    (200, 283),
+];
 
-fn print_slow_lengths(rt: &impl Print) -> io::Result<()> {
-    print_length(rt, 4_000, 2083)?;
-    print_length(rt, 3_125, 1333)?;
-    print_length(rt, 2_500, 1333)?;
-    print_length(rt, 2_000, 2083)?;
-    print_length(rt, 1_250, 1333)?;
-    print_length(rt, 1_000, 1083)?;
-    print_length(rt, 500, 583)?;
-    print_length(rt, 400, 483)?;
-    print_length(rt, 250, 333)?;
-    print_length(rt, 200, 283)
+fn print_lengths(rt: &impl Print) -> io::Result<()> {
+    for (hz, words) in LENGTHS_1992 {
+        print_length(rt, hz, words)?;
+    }
+    Ok(())
 }
 
 // A record of each edition under the other and under none, one that is too short, and lengths of another line.
@@ -264,7 +242,7 @@ fn print_editions(rt: &impl Print) -> io::Result<()> {
     print_line(
         rt,
         "1985's under 1992: ",
-        record::refusal_of(EDITION_1992, &of_1985),
+        refusal_of(EDITION_1992, &of_1985),
     )?;
     print_line(
         rt,
@@ -275,7 +253,7 @@ fn print_editions(rt: &impl Print) -> io::Result<()> {
     print_line(
         rt,
         "165 bytes: ",
-        record::refusal_of(EDITION_1992, &of_1992[0..165]),
+        refusal_of(EDITION_1992, &of_1992[0..165]),
     )?;
     print_length(rt, 31_250, 2083)?;
     print_length(rt, 200, 195)?;
@@ -284,16 +262,8 @@ fn print_editions(rt: &impl Print) -> io::Result<()> {
 
 fn main(rt: HostRuntime) -> io::Result<()> {
     let bytes = lister_case();
-    print_line(
-        &rt,
-        "the lister's case: ",
-        record::refusal_of(EDITION_1985, &bytes),
-    )?;
-    print_line(
-        &rt,
-        "79 bytes: ",
-        record::refusal_of(EDITION_1985, &bytes[0..79]),
-    )?;
+    print_line(&rt, "the lister's case: ", refusal_of(EDITION_1985, &bytes))?;
+    print_line(&rt, "79 bytes: ", refusal_of(EDITION_1985, &bytes[0..79]))?;
     print_date(&rt, "day 366 of year 84: ", 84 * 512 + 366)?;
     print_date(&rt, "day 367 of year 84: ", 84 * 512 + 367)?;
     print_date(&rt, "day 366 of year 86: ", 86 * 512 + 366)?;
@@ -302,7 +272,6 @@ fn main(rt: HostRuntime) -> io::Result<()> {
     print_date(&rt, "day 366 of year 99: ", 99 * 512 + 366)?;
     fill_a_second(&rt)?;
     println!(rt; "of 1992:")?;
-    print_fast_lengths(&rt)?;
-    print_slow_lengths(&rt)?;
+    print_lengths(&rt)?;
     print_editions(&rt)
 }
