@@ -10,8 +10,8 @@ use borrow.Author.Tests.{eq-eqb, ne_eqb}
 use Rattle.fields.specs.declared.Field.{Field}
 use Rattle.fields.specs.Field.{value_of, digits_good, decimal_fits}
 use Rattle.fields.specs.Table.{sound, read_all, all_digits_good, all_fit, value_in}
-use Rattle.header_parts.specs.Parts.{cells, Reads}
-use Rattle.header_parts.proofs.Laws.{listed, whole}
+use Rattle.header_parts.specs.Parts.{cells, rows_read}
+use Rattle.header_parts.proofs.Laws.{whole}
 use Rattle.header.specs.Format.{table, common, field_count}
 use Rattle.header.specs.Edition.{Edition, edition1985, edition1992, edition_of, fields_of, sample_rate, sync_word, header_bytes}
 
@@ -40,15 +40,12 @@ is-1985 n e = ap (λ (t : Bool). cond t edition1992 edition1985) (ne_eqb n 1992 
 pub fields-sound : (n : ℕ) → T (sound (8 * header_bytes n) (fields_of n))
 fields-sound = of-editions (λ e. T (sound (8 * e.layout.header-bytes) (table e.own))) tt tt
 
-pub own-counted : (n : ℕ) → length (edition_of n).own ≡ 8
-own-counted = of-editions (λ e. length e.own ≡ 8) refl refl
-
 pub fields-counted : (n : ℕ) → length (fields_of n) ≡ field_count
 fields-counted = of-editions (λ e. length (table e.own) ≡ field_count) refl refl
 
--- the own rows of an edition, read as a part
-pub own-listed : (n : ℕ) (b r : List ℕ) → Reads 0 (edition_of n).own b r → cells 0 8 r ≡ read_all (edition_of n).own b
-own-listed n b r h = ap (λ (k : ℕ). cells 0 k r) (sym (own-counted n)) ∙ listed 0 (edition_of n).own b r h
+-- the own rows are readable, so that what is read of them is what they hold
+pub own-read : (n : ℕ) (b : List ℕ) → cells 0 8 (rows_read (edition_of n).own b) ≡ read_all (edition_of n).own b
+own-read n b = of-editions (λ e. cells 0 8 (rows_read e.own b) ≡ read_all e.own b) refl refl n
 
 -- no own row is decimal: every digit to be judged stands in the common ones
 own-digits : (n : ℕ) (b : List ℕ) → all_digits_good (edition_of n).own b ≡ true
@@ -84,4 +81,4 @@ pub decimals-common : (n : ℕ) (v : List ℕ) → length v ≡ field_count
 decimals-common n v e =
     of-editions (λ d. all_fit decimal_fits common (cells 0 40 v) ≡ all_fit decimal_fits (table d.own) (cells 0 field_count v))
     refl refl n
-    ∙ ap (all_fit decimal_fits (fields_of n)) (whole field_count v e)
+    ∙ ap (all_fit decimal_fits (fields_of n)) (whole 0 field_count v e)
