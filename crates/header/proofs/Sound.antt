@@ -10,7 +10,7 @@ use borrow.Author.Tests.{eq-eqb, ne_eqb}
 use Rattle.fields.specs.declared.Field.{Field}
 use Rattle.fields.specs.Field.{value_of, digits_good, decimal_fits}
 use Rattle.fields.specs.Table.{sound, read_all, all_digits_good, all_fit, value_in}
-use Rattle.header_parts.specs.Parts.{cells, rows_read}
+use Rattle.header_parts.specs.Parts.{cells}
 use Rattle.header_parts.proofs.Laws.{whole}
 use Rattle.header.specs.Format.{table, common, field_count}
 use Rattle.header.specs.Edition.{Edition, edition1985, edition1992, edition_of, fields_of, sample_rate, sync_word, header_bytes}
@@ -43,9 +43,9 @@ fields-sound = of-editions (λ e. T (sound (8 * e.layout.header-bytes) (table e.
 pub fields-counted : (n : ℕ) → length (fields_of n) ≡ field_count
 fields-counted = of-editions (λ e. length (table e.own) ≡ field_count) refl refl
 
--- the own rows are readable, so that what is read of them is what they hold
-pub own-read : (n : ℕ) (b : List ℕ) → cells 0 8 (rows_read (edition_of n).own b) ≡ read_all (edition_of n).own b
-own-read n b = of-editions (λ e. cells 0 8 (rows_read e.own b) ≡ read_all e.own b) refl refl n
+-- what is read of the own rows is eight values
+pub own-whole : (n : ℕ) (b : List ℕ) → cells 0 8 (read_all (edition_of n).own b) ≡ read_all (edition_of n).own b
+own-whole n b = of-editions (λ e. cells 0 8 (read_all e.own b) ≡ read_all e.own b) refl refl n
 
 -- no own row is decimal: every digit to be judged stands in the common ones
 own-digits : (n : ℕ) (b : List ℕ) → all_digits_good (edition_of n).own b ≡ true

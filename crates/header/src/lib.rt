@@ -345,7 +345,7 @@ fn read_part<P: Part>(bytes: &[u8], values: &mut [u64])
 
 // The values of an edition's own rows.
 fn read_own(edition: u64, bytes: &[u8], values: &mut [u64])
-    ensures { values.new ≡ placed 0 8 40 (rows_read (edition_of edition).own bytes.now) values.old }
+    ensures { values.new ≡ placed 0 8 40 (read_all (edition_of edition).own bytes.now) values.old }
 {
     if edition == EDITION_1992 {
         read_part::<Own1992>(bytes, values);

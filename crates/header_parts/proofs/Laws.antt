@@ -3,6 +3,7 @@ use Prim.Native.Nat.{ℕ, zero, suc, ◌+◌}
 use mathlib.Core.Path.{◌≡◌, refl, ap, sym, ◌∙◌}
 use mathlib.Core.List.{List, [], ◌∷◌}
 use native.Mathlib.Nat.{add-zero, zero-add, add-suc, suc-add}
+use native.Mathlib.Numerals.{unary_clauses}
 use lib.ListN.{length, get_or, set}
 use Rattle.std.proofs.Common.{add-one}
 use Rattle.header_parts.specs.Parts.{items, placed}
@@ -19,6 +20,13 @@ module _ {A : Type 0} (d : A) where
 
   pub whole : (n : ℕ) (l : List A) → length l ≡ n → items d 0 n l ≡ l
   whole n l e = ap (λ (m : ℕ). items d 0 m l) (sym e) ∙ all-items l
+
+-- eight items, each named by how far it is from the first
+pub eight : {A : Type 0} (d : A) (k : ℕ) (l : List A)
+    → items d k 8 l
+    ≡ get_or l k d ∷ get_or l (k + 1) d ∷ get_or l (k + 2) d ∷ get_or l (k + 3) d ∷ get_or l (k + 4) d ∷ get_or l (k + 5) d
+    ∷ get_or l (k + 6) d ∷ get_or l (k + 7) d ∷ []
+eight d k l = simp unary_clauses
 
 -- a part that is placed after those before it
 pub then-placed : (at : ℕ) (p : List ℕ) {c b d : List ℕ} → c ≡ placed 0 8 at p b → b ≡ d → c ≡ placed 0 8 at p d
