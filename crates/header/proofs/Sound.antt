@@ -10,6 +10,7 @@ use borrow.Author.Tests.{eq-eqb, ne_eqb}
 use Rattle.fields.specs.declared.Field.{Field}
 use Rattle.fields.specs.Field.{value_of, digits_good, decimal_fits}
 use Rattle.fields.specs.Table.{sound, read_all, all_digits_good, all_fit, value_in}
+use Rattle.fields.proofs.Tables.{length-read}
 use Rattle.header_parts.specs.Parts.{cells}
 use Rattle.header_parts.proofs.Laws.{whole}
 use Rattle.header.specs.Format.{table, common, field_count}
@@ -40,12 +41,15 @@ is-1985 n e = ap (λ (t : Bool). cond t edition1992 edition1985) (ne_eqb n 1992 
 pub fields-sound : (n : ℕ) → T (sound (8 * header_bytes n) (fields_of n))
 fields-sound = of-editions (λ e. T (sound (8 * e.layout.header-bytes) (table e.own))) tt tt
 
+pub own-counted : (n : ℕ) → length (edition_of n).own ≡ 8
+own-counted = of-editions (λ e. length e.own ≡ 8) refl refl
+
 pub fields-counted : (n : ℕ) → length (fields_of n) ≡ field_count
 fields-counted = of-editions (λ e. length (table e.own) ≡ field_count) refl refl
 
 -- what is read of the own rows is eight values
 pub own-whole : (n : ℕ) (b : List ℕ) → cells 0 8 (read_all (edition_of n).own b) ≡ read_all (edition_of n).own b
-own-whole n b = of-editions (λ e. cells 0 8 (read_all e.own b) ≡ read_all e.own b) refl refl n
+own-whole n b = whole 0 8 (read_all (edition_of n).own b) (length-read (edition_of n).own b ∙ own-counted n)
 
 -- no own row is decimal: every digit to be judged stands in the common ones
 own-digits : (n : ℕ) (b : List ℕ) → all_digits_good (edition_of n).own b ≡ true

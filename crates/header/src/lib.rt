@@ -181,9 +181,9 @@ impl Part for Common1 {
         LENGTH_WORDS,
     ];
 
-    const AT: u16 = 0;
-
     ghost ROWS = { common1 };
+
+    const AT: u16 = 0;
 
     ghost AT = { 0 };
 
@@ -204,9 +204,9 @@ impl Part for Common2 {
         PREDICT_0,
     ];
 
-    const AT: u16 = 8;
-
     ghost ROWS = { common2 };
+
+    const AT: u16 = 8;
 
     ghost AT = { 8 };
 
@@ -220,9 +220,9 @@ impl Part for Common3 {
         PREDICT_1, PREDICT_2, PREDICT_3, PREDICT_4, PREDICT_5, PREDICT_6, PREDICT_7, PREDICT_8,
     ];
 
-    const AT: u16 = 16;
-
     ghost ROWS = { common3 };
+
+    const AT: u16 = 16;
 
     ghost AT = { 16 };
 
@@ -243,9 +243,9 @@ impl Part for Common4 {
         FREQUENCY_RATE_POWER,
     ];
 
-    const AT: u16 = 24;
-
     ghost ROWS = { common4 };
+
+    const AT: u16 = 24;
 
     ghost AT = { 24 };
 
@@ -266,9 +266,9 @@ impl Part for Common5 {
         COUNTER_TAG,
     ];
 
-    const AT: u16 = 32;
-
     ghost ROWS = { common5 };
+
+    const AT: u16 = 32;
 
     ghost AT = { 32 };
 
@@ -289,9 +289,9 @@ impl Part for Own1985 {
         EMPTY_1985,
     ];
 
-    const AT: u16 = 40;
-
     ghost ROWS = { own1985 };
+
+    const AT: u16 = 40;
 
     ghost AT = { 40 };
 
@@ -312,17 +312,16 @@ impl Part for Own1992 {
         FREQUENCY_OFFSET,
     ];
 
-    const AT: u16 = 40;
-
     ghost ROWS = { own1992 };
+
+    const AT: u16 = 40;
 
     ghost AT = { 40 };
 
     ghost within = { lit≤ tt };
 }
 
-// The values of a part's rows go to their places in the list of values. Every place is named: of a row named by a loop, the compiler
-// makes no literal.
+// The values of a part's rows go to their places in the list of values.
 fn read_part<P: Part>(bytes: &[u8], values: &mut [u64])
     ensures { values.new ≡ placed 0 8 P.AT (rows_read P.ROWS bytes.now) values.old }
 {
@@ -343,7 +342,7 @@ fn read_part<P: Part>(bytes: &[u8], values: &mut [u64])
     );
 }
 
-// The values of an edition's own rows.
+// Those of an edition's own rows go to theirs.
 fn read_own(edition: u64, bytes: &[u8], values: &mut [u64])
     ensures { values.new ≡ placed 0 8 40 (read_all (edition_of edition).own bytes.now) values.old }
 {

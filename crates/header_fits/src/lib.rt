@@ -26,7 +26,7 @@ pub fn decimals_fit(values: [u64; FIELD_COUNT]) -> bool
 }
 
 // Whether the values of a part are ones that their rows' bits can hold, if those are not decimal, and the rest fits too.
-fn part_fits<P: Part>(values: &[u64; FIELD_COUNT], rest: bool) -> bool
+fn fit_part<P: Part>(values: &[u64; FIELD_COUNT], rest: bool) -> bool
     ensures { result ≡ rows_fit P.ROWS P.AT values.now rest }
 {
     let rows = P::ROWS;
@@ -42,23 +42,23 @@ fn part_fits<P: Part>(values: &[u64; FIELD_COUNT], rest: bool) -> bool
 }
 
 // The same of an edition's own rows.
-fn own_fits(edition: u64, values: &[u64; FIELD_COUNT]) -> bool
+fn fit_own(edition: u64, values: &[u64; FIELD_COUNT]) -> bool
     ensures { result ≡ rows_fit (edition_of edition).own 40 values.now true }
 {
     if edition == header::EDITION_1992 {
-        return part_fits::<Own1992>(values, true);
+        return fit_part::<Own1992>(values, true);
     }
-    part_fits::<Own1985>(values, true)
+    fit_part::<Own1985>(values, true)
 }
 
 // Whether every value that is not decimal is one that its field's bits can hold.
 pub fn binaries_fit(edition: u64, values: [u64; FIELD_COUNT]) -> bool
     ensures { result ≡ all_fit binary_fits (fields_of edition) values }
 {
-    let own = own_fits(edition, &values);
-    let from_5 = part_fits::<Common5>(&values, own);
-    let from_4 = part_fits::<Common4>(&values, from_5);
-    let from_3 = part_fits::<Common3>(&values, from_4);
-    let from_2 = part_fits::<Common2>(&values, from_3);
-    part_fits::<Common1>(&values, from_2)
+    let own = fit_own(edition, &values);
+    let from_5 = fit_part::<Common5>(&values, own);
+    let from_4 = fit_part::<Common4>(&values, from_5);
+    let from_3 = fit_part::<Common3>(&values, from_4);
+    let from_2 = fit_part::<Common2>(&values, from_3);
+    fit_part::<Common1>(&values, from_2)
 }

@@ -1,5 +1,5 @@
 -- Parts of a table of fields, and of a list of values: what the code reads, writes and judges of a few rows.
-use Rattle.std.specs.Prelude.{ℕ, zero, suc, ◌+◌, ◌≡◌, Bool, ◌&&◌, List, [], ◌∷◌, get_or, set}
+use Rattle.std.specs.Prelude.{ℕ, zero, suc, ◌+◌, Bool, ◌&&◌, List, [], ◌∷◌, get_or, set}
 use Rattle.fields.specs.declared.Field.{Field}
 use Rattle.fields.specs.Field.{read_value, write_value, fits_binary}
 

@@ -1,4 +1,4 @@
-use Rattle.std.proofs.Common.{◌≡◌, ◌+◌, ◌∙◌, sym, get_or, length, ap, subst, arith}
+use Rattle.std.proofs.Common.{◌+◌, get_or}
 use Rattle.std.proofs.Math.Seq.{set_out}
 use Rattle.header_parts.proofs.Laws.{placed-next}
 use Rattle.header_parts.proofs.place.Goals as goal
@@ -12,6 +12,6 @@ loop-k-preserved c =
     let before = c.loop-k.invariant in
     let next = placed-next k a.at a.part a.values.now in
     elim c.if-place-values.branch [
-      then-place-values w ↦ cc
+      | then-place-values w ↦ cc
       | else-place-values w ↦ let out = set_out v (a.at + k) (get_or a.part k 0) w.if-place-values.false in cc
     ]

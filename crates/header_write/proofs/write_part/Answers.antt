@@ -1,6 +1,5 @@
-use Rattle.std.proofs.Common.{◌≡◌, ℕ, ◌+◌, ◌∙◌, List, length, get_or, ap, sym, arith}
+use Rattle.std.proofs.Common.{◌≡◌, ℕ, ◌+◌, ◌∙◌, List, get_or, ap, sym, arith}
 use Rattle.fields.specs.Field.{none, write_value}
-use Rattle.fields.proofs.Tables.{length-write}
 use Rattle.header_parts.specs.Parts.{cells, rows_written}
 use Rattle.header_parts.proofs.Laws.{whole, eight}
 use Rattle.header_write.proofs.write_part.Goals as goal

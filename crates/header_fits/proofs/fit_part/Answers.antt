@@ -1,9 +1,9 @@
-use Rattle.std.proofs.Common.{◌≡◌, ◌∙◌, ◌+◌, ℕ, Bool, ◌&&◌, get_or, length, ap, sym, arith}
+use Rattle.std.proofs.Common.{◌≡◌, ◌∙◌, ◌+◌, ℕ, Bool, ◌&&◌, get_or, ap, arith}
 use native.Mathlib.Numerals.{unary_clauses}
 use Rattle.fields.specs.Field.{none, fits_binary}
-use Rattle.header_parts.specs.Parts.{items, rows_fit}
+use Rattle.header_parts.specs.Parts.{rows_fit}
 use Rattle.header_parts.proofs.Laws.{whole}
-use Rattle.header_fits.proofs.part_fits.Goals as goal
+use Rattle.header_fits.proofs.fit_part.Goals as goal
 
 pub returns : goal.returns
 returns g c =
