@@ -10,8 +10,9 @@ use borrow.Author.Tests.{eq-eqb, ne_eqb}
 use Rattle.fields.specs.declared.Field.{Field}
 use Rattle.fields.specs.Field.{value_of, digits_good, decimal_fits}
 use Rattle.fields.specs.Table.{sound, read_all, all_digits_good, all_fit, value_in}
-use Rattle.header_parts.specs.Parts.{cells, Reads}
-use Rattle.header_parts.proofs.Laws.{listed, whole}
+use Rattle.fields.proofs.Tables.{length-read}
+use Rattle.header_parts.specs.Parts.{cells}
+use Rattle.header_parts.proofs.Laws.{whole}
 use Rattle.header.specs.Format.{table, common, field_count}
 use Rattle.header.specs.Edition.{Edition, edition1985, edition1992, edition_of, fields_of, sample_rate, sync_word, header_bytes}
 
@@ -46,9 +47,9 @@ own-counted = of-editions (λ e. length e.own ≡ 8) refl refl
 pub fields-counted : (n : ℕ) → length (fields_of n) ≡ field_count
 fields-counted = of-editions (λ e. length (table e.own) ≡ field_count) refl refl
 
--- the own rows of an edition, read as a part
-pub own-listed : (n : ℕ) (b r : List ℕ) → Reads 0 (edition_of n).own b r → cells 0 8 r ≡ read_all (edition_of n).own b
-own-listed n b r h = ap (λ (k : ℕ). cells 0 k r) (sym (own-counted n)) ∙ listed 0 (edition_of n).own b r h
+-- what is read of the own rows is eight values
+pub own-whole : (n : ℕ) (b : List ℕ) → cells 0 8 (read_all (edition_of n).own b) ≡ read_all (edition_of n).own b
+own-whole n b = whole 0 8 (read_all (edition_of n).own b) (length-read (edition_of n).own b ∙ own-counted n)
 
 -- no own row is decimal: every digit to be judged stands in the common ones
 own-digits : (n : ℕ) (b : List ℕ) → all_digits_good (edition_of n).own b ≡ true
@@ -84,4 +85,4 @@ pub decimals-common : (n : ℕ) (v : List ℕ) → length v ≡ field_count
 decimals-common n v e =
     of-editions (λ d. all_fit decimal_fits common (cells 0 40 v) ≡ all_fit decimal_fits (table d.own) (cells 0 field_count v))
     refl refl n
-    ∙ ap (all_fit decimal_fits (fields_of n)) (whole field_count v e)
+    ∙ ap (all_fit decimal_fits (fields_of n)) (whole 0 field_count v e)

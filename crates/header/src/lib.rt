@@ -3,12 +3,14 @@
 #![tactic(auto)]
 
 ghost use Rattle.std.specs.Prelude.{◌≡◌};
+ghost use Rattle.std.proofs.Common.{lit≤};
 ghost use Rattle.fields.specs.Table.{read_all, all_digits_good};
-ghost use Rattle.header_parts.specs.Parts.{Reads};
+ghost use Rattle.header_parts.specs.Parts.{placed, rows_read};
 ghost use Rattle.header.specs.Format.{common, common1, common2, common3, common4, common5, own1985, own1992};
 ghost use Rattle.header.specs.Edition.{edition_of, fields_of};
 
 use fields::Field;
+use header_parts::Part;
 
 // The editions that a caller can name.
 pub const EDITION_1985: u64 = 1985;
@@ -163,132 +165,204 @@ pub const AT_SAMPLE_RATE: usize = 41;
 
 pub const AT_SYNC: usize = 42;
 
-// The values of each part's rows, every row named: an index into a table would write the table to memory first.
-fn read_common_1(bytes: &[u8]) -> [u64; 8]
-    ensures { Reads 0 common1 bytes.now result }
-{
-    [
-        fields::read_field(bytes, CLOCK_ORIGIN),
-        fields::read_field(bytes, SESSION_START),
-        fields::read_field(bytes, COPY_ERROR),
-        fields::read_field(bytes, CONVERSION),
-        fields::read_field(bytes, COMPRESSION),
-        fields::read_field(bytes, TAPE_NUMBER),
-        fields::read_field(bytes, RECORD_NUMBER),
-        fields::read_field(bytes, LENGTH_WORDS),
-    ]
+// The parts of the table: the rows that every edition has, eight a part in the order of the words, and the own rows of each edition.
+// A row is named here alone: who reads, writes or judges it takes it from its part.
+pub struct Common1;
+
+impl Part for Common1 {
+    const ROWS: [Field; 8] = [
+        CLOCK_ORIGIN,
+        SESSION_START,
+        COPY_ERROR,
+        CONVERSION,
+        COMPRESSION,
+        TAPE_NUMBER,
+        RECORD_NUMBER,
+        LENGTH_WORDS,
+    ];
+
+    ghost ROWS = { common1 };
+
+    const AT: u16 = 0;
+
+    ghost AT = { 0 };
+
+    ghost within = { lit≤ tt };
 }
 
-fn read_common_2(bytes: &[u8]) -> [u64; 8]
-    ensures { Reads 0 common2 bytes.now result }
-{
-    [
-        fields::read_field(bytes, PRIME_FEA),
-        fields::read_field(bytes, SECONDARY_FEA),
-        fields::read_field(bytes, SPACECRAFT),
-        fields::read_field(bytes, SPC),
-        fields::read_field(bytes, YEAR),
-        fields::read_field(bytes, DAY),
-        fields::read_field(bytes, TIME_TAG),
-        fields::read_field(bytes, PREDICT_0),
-    ]
+pub struct Common2;
+
+impl Part for Common2 {
+    const ROWS: [Field; 8] = [
+        PRIME_FEA,
+        SECONDARY_FEA,
+        SPACECRAFT,
+        SPC,
+        YEAR,
+        DAY,
+        TIME_TAG,
+        PREDICT_0,
+    ];
+
+    ghost ROWS = { common2 };
+
+    const AT: u16 = 8;
+
+    ghost AT = { 8 };
+
+    ghost within = { lit≤ tt };
 }
 
-fn read_common_3(bytes: &[u8]) -> [u64; 8]
-    ensures { Reads 0 common3 bytes.now result }
-{
-    [
-        fields::read_field(bytes, PREDICT_1),
-        fields::read_field(bytes, PREDICT_2),
-        fields::read_field(bytes, PREDICT_3),
-        fields::read_field(bytes, PREDICT_4),
-        fields::read_field(bytes, PREDICT_5),
-        fields::read_field(bytes, PREDICT_6),
-        fields::read_field(bytes, PREDICT_7),
-        fields::read_field(bytes, PREDICT_8),
-    ]
+pub struct Common3;
+
+impl Part for Common3 {
+    const ROWS: [Field; 8] = [
+        PREDICT_1, PREDICT_2, PREDICT_3, PREDICT_4, PREDICT_5, PREDICT_6, PREDICT_7, PREDICT_8,
+    ];
+
+    ghost ROWS = { common3 };
+
+    const AT: u16 = 16;
+
+    ghost AT = { 16 };
+
+    ghost within = { lit≤ tt };
 }
 
-fn read_common_4(bytes: &[u8]) -> [u64; 8]
-    ensures { Reads 0 common4 bytes.now result }
-{
-    [
-        fields::read_field(bytes, PREDICT_9),
-        fields::read_field(bytes, STATUS),
-        fields::read_field(bytes, READBACK),
-        fields::read_field(bytes, READBACK_TAG),
-        fields::read_field(bytes, CALCULATED),
-        fields::read_field(bytes, UPDATE_TAG),
-        fields::read_field(bytes, FREQUENCY_RATE_DIGITS),
-        fields::read_field(bytes, FREQUENCY_RATE_POWER),
-    ]
+pub struct Common4;
+
+impl Part for Common4 {
+    const ROWS: [Field; 8] = [
+        PREDICT_9,
+        STATUS,
+        READBACK,
+        READBACK_TAG,
+        CALCULATED,
+        UPDATE_TAG,
+        FREQUENCY_RATE_DIGITS,
+        FREQUENCY_RATE_POWER,
+    ];
+
+    ghost ROWS = { common4 };
+
+    const AT: u16 = 24;
+
+    ghost AT = { 24 };
+
+    ghost within = { lit≤ tt };
 }
 
-fn read_common_5(bytes: &[u8]) -> [u64; 8]
-    ensures { Reads 0 common5 bytes.now result }
-{
-    [
-        fields::read_field(bytes, FREQUENCY_RATE_SIGN),
-        fields::read_field(bytes, PHASE_1),
-        fields::read_field(bytes, PHASE_2),
-        fields::read_field(bytes, SELECTOR_1),
-        fields::read_field(bytes, SELECTOR_2),
-        fields::read_field(bytes, SELECTOR_3),
-        fields::read_field(bytes, SELECTOR_4),
-        fields::read_field(bytes, COUNTER_TAG),
-    ]
+pub struct Common5;
+
+impl Part for Common5 {
+    const ROWS: [Field; 8] = [
+        FREQUENCY_RATE_SIGN,
+        PHASE_1,
+        PHASE_2,
+        SELECTOR_1,
+        SELECTOR_2,
+        SELECTOR_3,
+        SELECTOR_4,
+        COUNTER_TAG,
+    ];
+
+    ghost ROWS = { common5 };
+
+    const AT: u16 = 32;
+
+    ghost AT = { 32 };
+
+    ghost within = { lit≤ tt };
 }
 
-// The rows of an edition alone.
-fn read_own_1985(bytes: &[u8]) -> [u64; 8]
-    ensures { Reads 0 own1985 bytes.now result }
-{
-    [
-        fields::read_field(bytes, FILTER),
-        fields::read_field(bytes, SAMPLE_RATE_1985),
-        fields::read_field(bytes, SYNC_1985),
-        fields::read_field(bytes, WORD_39),
-        fields::read_field(bytes, REGISTER_1),
-        fields::read_field(bytes, REGISTER_2),
-        fields::read_field(bytes, EMPTY_1985),
-        fields::read_field(bytes, EMPTY_1985),
-    ]
+pub struct Own1985;
+
+impl Part for Own1985 {
+    const ROWS: [Field; 8] = [
+        FILTER,
+        SAMPLE_RATE_1985,
+        SYNC_1985,
+        WORD_39,
+        REGISTER_1,
+        REGISTER_2,
+        EMPTY_1985,
+        EMPTY_1985,
+    ];
+
+    ghost ROWS = { own1985 };
+
+    const AT: u16 = 40;
+
+    ghost AT = { 40 };
+
+    ghost within = { lit≤ tt };
 }
 
-fn read_own_1992(bytes: &[u8]) -> [u64; 8]
-    ensures { Reads 0 own1992 bytes.now result }
-{
-    [
-        fields::read_field(bytes, RF_CONFIGURATION),
-        fields::read_field(bytes, SAMPLE_RATE_1992),
-        fields::read_field(bytes, SYNC_1992),
-        fields::read_field(bytes, RF_CONFIGURATION_REPORTED),
-        fields::read_field(bytes, TIME_OFFSET_DAYS),
-        fields::read_field(bytes, TIME_OFFSET_SIGN),
-        fields::read_field(bytes, TIME_OFFSET_SECONDS),
-        fields::read_field(bytes, FREQUENCY_OFFSET),
-    ]
+pub struct Own1992;
+
+impl Part for Own1992 {
+    const ROWS: [Field; 8] = [
+        RF_CONFIGURATION,
+        SAMPLE_RATE_1992,
+        SYNC_1992,
+        RF_CONFIGURATION_REPORTED,
+        TIME_OFFSET_DAYS,
+        TIME_OFFSET_SIGN,
+        TIME_OFFSET_SECONDS,
+        FREQUENCY_OFFSET,
+    ];
+
+    ghost ROWS = { own1992 };
+
+    const AT: u16 = 40;
+
+    ghost AT = { 40 };
+
+    ghost within = { lit≤ tt };
 }
 
-fn read_own(edition: u64, bytes: &[u8]) -> [u64; 8]
-    ensures { Reads 0 (edition_of edition).own bytes.now result }
+// The values of a part's rows go to their places in the list of values.
+fn read_part<P: Part>(bytes: &[u8], values: &mut [u64])
+    ensures { values.new ≡ placed 0 8 P.AT (rows_read P.ROWS bytes.now) values.old }
+{
+    let rows = P::ROWS;
+    header_parts::place(
+        values,
+        P::AT,
+        [
+            fields::read_field(bytes, rows[0]),
+            fields::read_field(bytes, rows[1]),
+            fields::read_field(bytes, rows[2]),
+            fields::read_field(bytes, rows[3]),
+            fields::read_field(bytes, rows[4]),
+            fields::read_field(bytes, rows[5]),
+            fields::read_field(bytes, rows[6]),
+            fields::read_field(bytes, rows[7]),
+        ],
+    );
+}
+
+// Those of an edition's own rows go to theirs.
+fn read_own(edition: u64, bytes: &[u8], values: &mut [u64])
+    ensures { values.new ≡ placed 0 8 40 (read_all (edition_of edition).own bytes.now) values.old }
 {
     if edition == EDITION_1992 {
-        return read_own_1992(bytes);
+        read_part::<Own1992>(bytes, values);
+    } else {
+        read_part::<Own1985>(bytes, values);
     }
-    read_own_1985(bytes)
 }
 
 // The values of an edition's fields go into the array lent, in the table's order.
 pub fn read_into(edition: u64, bytes: &[u8], values: &mut [u64; FIELD_COUNT])
     ensures { values.new ≡ read_all (fields_of edition) bytes.now }
 {
-    header_parts::place(values, 0, read_common_1(bytes));
-    header_parts::place(values, 8, read_common_2(bytes));
-    header_parts::place(values, 16, read_common_3(bytes));
-    header_parts::place(values, 24, read_common_4(bytes));
-    header_parts::place(values, 32, read_common_5(bytes));
-    header_parts::place(values, 40, read_own(edition, bytes));
+    read_part::<Common1>(bytes, values);
+    read_part::<Common2>(bytes, values);
+    read_part::<Common3>(bytes, values);
+    read_part::<Common4>(bytes, values);
+    read_part::<Common5>(bytes, values);
+    read_own(edition, bytes, values);
 }
 
 // The values of an edition's fields, in the table's order.

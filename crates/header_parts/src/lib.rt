@@ -1,29 +1,35 @@
-// Eight values of a header put into its list of values; one past the end of the list is dropped. FORMAT, "The record".
+// Parts of a header's table: eight rows at a time, and eight values put into a header's list of values. FORMAT, "The record".
 #![tactic(auto)]
 
-ghost use Rattle.std.specs.Prelude.{◌≡◌, ◌+◌, set};
+ghost use Rattle.std.specs.Prelude.{◌≡◌, ◌≤◌, ℕ, List};
+ghost use Rattle.fields.specs.declared.Field.{Field};
 ghost use Rattle.header_parts.specs.Parts.{placed};
 
-// The value goes to the place k after `at`, if there is one.
-fn put_value(values: &mut [u64], at: u16, k: u16, value: u64)
-    ensures { values.new ≡ set values.old (at + k) value }
-{
-    let place = at as usize + k as usize;
-    if place < values.len() {
-        values[place] = value;
-    }
+use fields::Field;
+
+// A part: its rows, and the place of the first one's value, from which on a header's 48 values have room for eight.
+// Its users name its eight places one by one: by `for`, `zip` or `map` a header took 360 to 600 ns to read, so 30; to write, 530 and 126.
+pub trait Part {
+    const ROWS: [Field; 8];
+
+    ghost ROWS: { List Field };
+
+    const AT: u16;
+
+    ghost AT: { ℕ };
+
+    ghost within: { AT ≤ 40 };
 }
 
-// The values of a part go to the places from `at` on.
+// The values of a part go to the places from `at` on; one past the end of the list is dropped.
+// By index: with `values.iter_mut().skip(at).zip(part)` a header took 286 ns to read, so 35.
 pub fn place(values: &mut [u64], at: u16, part: [u64; 8])
     ensures { values.new ≡ placed 0 8 at part values.old }
 {
-    put_value(values, at, 0, part[0]);
-    put_value(values, at, 1, part[1]);
-    put_value(values, at, 2, part[2]);
-    put_value(values, at, 3, part[3]);
-    put_value(values, at, 4, part[4]);
-    put_value(values, at, 5, part[5]);
-    put_value(values, at, 6, part[6]);
-    put_value(values, at, 7, part[7]);
+    for (k, value) in part.iter().enumerate() {
+        let place = at as usize + k;
+        if place < values.len() {
+            values[place] = *value;
+        }
+    }
 }

@@ -22,10 +22,10 @@ unfolding fits_binary
 returns c =
     let n = c.args.edition in
     let v = c.args.values in
-    c.fit_common_1.ensures ∙ ap (rows_fit common1 0 v) (
-    c.fit_common_2-from_2.ensures ∙ ap (rows_fit common2 8 v) (
-    c.fit_common_3-from_3.ensures ∙ ap (rows_fit common3 16 v) (
-    c.fit_common_4-from_4.ensures ∙ ap (rows_fit common4 24 v) (
-    c.fit_common_5-from_5.ensures ∙ ap (rows_fit common5 32 v) (
+    c.fit_part.ensures ∙ ap (rows_fit common1 0 v) (
+    c.fit_part-from_2.ensures ∙ ap (rows_fit common2 8 v) (
+    c.fit_part-from_3.ensures ∙ ap (rows_fit common3 16 v) (
+    c.fit_part-from_4.ensures ∙ ap (rows_fit common4 24 v) (
+    c.fit_part-from_5.ensures ∙ ap (rows_fit common5 32 v) (
     c.fit_own-own.ensures ∙ own-fit n v)))))
-    ∙ ap (all_fit binary_fits (fields_of n)) (whole field_count v (search (rules, c.well_formed)))
+    ∙ ap (all_fit binary_fits (fields_of n)) (whole 0 field_count v (search (rules, c.well_formed)))

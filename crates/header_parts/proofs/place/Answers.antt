@@ -1,17 +1,17 @@
-use mathlib.Core.Path.{◌∙◌, ap}
-use Prim.Native.Nat.{ℕ, ◌+◌}
-use mathlib.Core.List.{List}
-use lib.ListN.{get_or, set}
+use Rattle.std.proofs.Common.{◌+◌, get_or}
+use Rattle.std.proofs.Math.Seq.{set_out}
+use Rattle.header_parts.proofs.Laws.{placed-next}
 use Rattle.header_parts.proofs.place.Goals as goal
+use Rattle.header_parts.proofs.place.Goals.{then-place-values, else-place-values}
 
-pub returns : goal.returns
-returns c =
+pub loop-k-preserved : goal.loop-k-preserved
+loop-k-preserved c =
     let a = c.args in
-    let put : ℕ → List ℕ → List ℕ = λ k v. set v (a.at + k) (get_or a.part k 0) in
-    c.put_value-8.ensures ∙ ap (put 7) (
-    c.put_value-7.ensures ∙ ap (put 6) (
-    c.put_value-6.ensures ∙ ap (put 5) (
-    c.put_value-5.ensures ∙ ap (put 4) (
-    c.put_value-4.ensures ∙ ap (put 3) (
-    c.put_value-3.ensures ∙ ap (put 2) (
-    c.put_value-2.ensures ∙ ap (put 1) c.put_value.ensures))))))
+    let k = c.loop-k.k in
+    let v = c.loop-k.values in
+    let before = c.loop-k.invariant in
+    let next = placed-next k a.at a.part a.values.now in
+    elim c.if-place-values.branch [
+      | then-place-values w ↦ cc
+      | else-place-values w ↦ let out = set_out v (a.at + k) (get_or a.part k 0) w.if-place-values.false in cc
+    ]

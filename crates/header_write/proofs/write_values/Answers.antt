@@ -15,8 +15,8 @@ returns c =
     let n = a.edition in
     let v = a.values in
     c.write_own.ensures ∙ ap (write_all (edition_of n).own (cells 40 8 v)) (
-    c.write_common_5.ensures ∙ ap (write_all common5 (cells 32 8 v)) (
-    c.write_common_4.ensures ∙ ap (write_all common4 (cells 24 8 v)) (
-    c.write_common_3.ensures ∙ ap (write_all common3 (cells 16 8 v)) (
-    c.write_common_2.ensures ∙ ap (write_all common2 (cells 8 8 v)) c.write_common_1.ensures))))
-    ∙ ap (λ (l : List ℕ). write_all (fields_of n) l a.bytes.now) (whole field_count v (search (rules, c.well_formed)))
+    c.write_part-5.ensures ∙ ap (write_all common5 (cells 32 8 v)) (
+    c.write_part-4.ensures ∙ ap (write_all common4 (cells 24 8 v)) (
+    c.write_part-3.ensures ∙ ap (write_all common3 (cells 16 8 v)) (
+    c.write_part-2.ensures ∙ ap (write_all common2 (cells 8 8 v)) c.write_part.ensures))))
+    ∙ ap (λ (l : List ℕ). write_all (fields_of n) l a.bytes.now) (whole 0 field_count v (search (rules, c.well_formed)))
