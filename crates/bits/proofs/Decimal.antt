@@ -74,7 +74,7 @@ coded-decimal (suc n) v h t =
 
 -- ## whether a number has no more than n decimal digits
 
-ten-more : (k : ℕ) → 10 ^ (k + 1) ≡ 10 ^ k * 10
+pub ten-more : (k : ℕ) → 10 ^ (k + 1) ≡ 10 ^ k * 10
 ten-more k = ap (λ (n : ℕ). 10 ^ n) (add-one k) ∙ pow-suc 10 k
 
 pub ten-less : (x k : ℕ) → x / 10 ^ k / 10 ≡ x / 10 ^ (k + 1)
