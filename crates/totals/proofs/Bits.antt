@@ -1,5 +1,5 @@
 -- Signed numbers: their size, their squares, and how the code's bits show them. Assumes nothing.
-use mathlib.Core.Path.{◌≡◌, refl}
+use mathlib.Core.Path.{◌≡◌, refl, ap, ◌∙◌}
 use mathlib.Core.Bool.{Bool, true, false, cond, ◌||◌}
 use Prim.Native.Nat.{ℕ, suc, ◌+◌, ◌-◌, ◌*◌, ◌≤◌, ◌<◌}
 use native.Mathlib.Nat.{mul-le-mul}
@@ -7,9 +7,9 @@ use native.Mathlib.Omega.{arith}
 use lib.IntN.{ℤ, pos, negsuc, nat_abs, sub_ℕ, ◌+ℤ◌, ◌*ℤ◌}
 use lib.Signed.{mag}
 use lib.Dec.{T, ltb, eqb, ltb→lt}
-use mir.Syntax.{w8}
-use mir.Val.{SFits, of_z}
-use mir.Facts.{sfits_lit}
+use mir.Syntax.{Width, w8}
+use mir.Val.{SFits, to_z, of_z}
+use mir.Facts.{to_z-of_z, sfits_lit}
 use borrow.Author.Tests.{eqb-true, eqb-false, eq-eqb, ne_eqb}
 use Rattle.totals.specs.Total.{is_same, is_clipped}
 
@@ -44,6 +44,10 @@ abs-sum (negsuc a) (negsuc b) = omega arith
 pub square : (z : ℤ) → z *ℤ z ≡ pos (nat_abs z * nat_abs z)
 square (pos n) = refl
 square (negsuc n) = refl
+
+-- a byte widened, as the code has it
+pub widens : (w : Width) {z : ℤ} → SFits w z → SFits w8 z → to_z w (of_z w (to_z w8 (of_z w8 z))) ≡ z
+widens w {z} k h = ap (λ (y : ℤ). to_z w (of_z w y)) (to_z-of_z h) ∙ to_z-of_z k
 
 -- bytes have the same bits where they are the same number
 same_bits : (a b : ℤ) → SFits w8 a → SFits w8 b → eqb (of_z w8 a) (of_z w8 b) ≡ is_same a b
