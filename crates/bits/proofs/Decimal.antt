@@ -2,13 +2,13 @@
 use Prim.Native.Nat.{ℕ, zero, suc, ◌+◌, ◌-◌, ◌*◌, ◌/◌, ◌%◌, ◌^◌, ◌≤◌, ◌<◌}
 use mathlib.Core.Path.{◌≡◌, ap, sym, ◌∙◌, subst}
 use mathlib.Core.Logic.{⊎_elim}
-use native.Mathlib.Nat.{one-mul, pow-suc, pow-le-pow_right, div-one, div-eq_of_lt, div-lt_iff_lt-mul}
+use native.Mathlib.Nat.{one-mul, mul_comm, mul_assoc, pow-suc, pow-le-pow_right, div-one, div-div-eq-div-mul, div-eq_of_lt, div-lt_iff_lt-mul}
 use native.Mathlib.Numerals.{add-one}
 use native.Mathlib.Omega.{arith}
 use lib.Pow.{shr-shr}
 use lib.Dec.{T, eqb, leb, ltb, leb→le, le→leb, lit<, lit≤}
 use borrow.Author.Tests.{eq-eqb, ne_eqb, lt-ltb, le-ltb}
-use Rattle.bits.specs.Decimal.{decimal_value, digits, coded}
+use Rattle.bits.specs.Decimal.{decimal_value, digits, coded, most_digits}
 use Rattle.lists.proofs.Truth.{left, right, both}
 use Rattle.lists.proofs.Order.{le-or-lt}
 
@@ -77,6 +77,9 @@ coded-decimal (suc n) v h t =
 pub ten-more : (k : ℕ) → 10 ^ (k + 1) ≡ 10 ^ k * 10
 ten-more k = ap (λ (n : ℕ). 10 ^ n) (add-one k) ∙ pow-suc 10 k
 
+pub ten-less : (x k : ℕ) → x / 10 ^ k / 10 ≡ x / 10 ^ (k + 1)
+ten-less x k = div-div-eq-div-mul x (10 ^ k) 10 ∙ ap (λ (z : ℕ). x / z) (sym (ten-more k))
+
 -- then nothing is left of it after n divisions by ten
 pub none_left : (x n : ℕ) → eqb (x / 10 ^ n) 0 ≡ ltb x (10 ^ n)
 none_left x n =
@@ -113,19 +116,33 @@ digits-whole n l c e =
     ap (λ (k : ℕ). decimal_value k (c / 2 ^ (4 * l))) m ∙ ap (λ (k : ℕ). decimal_value n (c / 2 ^ (4 * k))) e
     ∙ ap (decimal_value n) (div-one c)
 
--- ## the recursion that codes
+-- ## the loop that codes, from the least significant digit on
 
-pub coded_none : (n x : ℕ) → n ≡ 0 → 0 ≡ coded n x
+pub coded_more : (k x : ℕ) → coded k x + x / 10 ^ k % 10 * 16 ^ k ≡ coded (k + 1) x
 unfolding coded
-coded_none n x e = sym (ap (λ (z : ℕ). coded z x) e)
-
-pub coded-step : (n x : ℕ) → 0 < n → coded n x ≡ coded (n - 1) (x / 10) * 16 + x % 10
-unfolding coded
-coded-step n x h = let e : n ≡ suc (n - 1) = omega arith in ap (λ (z : ℕ). coded z x) e
+coded_more k x = sym (next k x) ∙ ap (λ (n : ℕ). coded n x) (sym (add-one k))
+  where
+    next : (k x : ℕ) → coded (suc k) x ≡ coded k x + x / 10 ^ k % 10 * 16 ^ k
+    next zero x = omega (arith, div-one x)
+    next (suc k) x =
+        let e : coded (suc k) (x / 10) ≡ coded k (x / 10) + x / 10 / 10 ^ k % 10 * 16 ^ k = next k (x / 10) in
+        let p : 10 * 10 ^ k ≡ 10 ^ suc k = mul_comm 10 (10 ^ k) ∙ sym (pow-suc 10 k) in
+        let q : x / 10 / 10 ^ k ≡ x / 10 ^ suc k = div-div-eq-div-mul x 10 (10 ^ k) ∙ ap (λ (z : ℕ). x / z) p in
+        let r : x / 10 ^ suc k % 10 * 16 ^ suc k ≡ x / 10 ^ suc k % 10 * 16 ^ k * 16 =
+        ap (λ (z : ℕ). x / 10 ^ suc k % 10 * z) (pow-suc 16 k) ∙ sym (mul_assoc (x / 10 ^ suc k % 10) (16 ^ k) 16) in
+        let d : x / 10 / 10 ^ k % 10 * 16 ^ k ≡ x / 10 ^ suc k % 10 * 16 ^ k = ap (λ (z : ℕ). z % 10 * 16 ^ k) q in
+        omega (arith, e, d, r)
 
 -- room for 13 digits before the last
 pub decimal-small : (n c : ℕ) → n ≤ 13 → decimal_value n c < 2 * 10 ^ 13
 decimal-small n c h = omega (arith, decimal-room n c, pow-le-pow_right {n = 10} (lit< tt) {i = n} {j = 13} h)
 
-pub coded-small : (n x : ℕ) → n ≤ 13 → coded n x < 16 ^ 13
-coded-small n x h = omega (arith, coded-lt n x, pow-le-pow_right {n = 16} (lit< tt) {i = n} {j = 13} h)
+-- the place of a digit, and a code of the most digits, in a word
+pub place-small : (k : ℕ) → k ≤ most_digits → 16 ^ k ≤ 16 ^ most_digits
+place-small k h = pow-le-pow_right {n = 16} (lit< tt) {i = k} {j = most_digits} h
+
+pub sixteen-more : (k : ℕ) → 16 ^ k * 16 ≡ 16 ^ (k + 1)
+sixteen-more k = sym (ap (λ (n : ℕ). 16 ^ n) (add-one k) ∙ pow-suc 16 k)
+
+pub coded-small : (n x : ℕ) → n ≤ most_digits → coded n x < 16 ^ most_digits
+coded-small n x h = omega (arith, coded-lt n x, place-small n h)

@@ -15,12 +15,6 @@ const MOST_DIGITS: usize = 14;
 // The lowest bit of each of the 14 digits.
 const DIGIT_ONES: u64 = 0x11_1111_1111_1111;
 
-fn wide(byte: u8) -> u64
-    ensures { (result ≡ byte) × (result < 256) }
-{
-    byte as u64
-}
-
 fn narrow(x: u64) -> u8
     ensures { result ≡ x % 256 }
 {
@@ -39,10 +33,7 @@ fn two_to(k: usize) -> u64
 fn byte_at(bytes: &[u8], i: usize) -> u64
     ensures { (result ≡ get_or bytes.now i 0) × (result < 256) }
 {
-    if i < bytes.len() {
-        return wide(bytes[i]);
-    }
-    0
+    u64::from(bytes.get(i).copied().unwrap_or(0))
 }
 
 // The number that `count` bytes from `from` on make, high byte first.
@@ -50,11 +41,9 @@ fn window(bytes: &[u8], from: usize, count: usize) -> u64
     requires { (from < 2 ^ 61) × (count ≤ 8) }
     ensures { result ≡ get_bits (8 * from) (8 * count) bytes.now }
 {
-    let mut x: u64 = 0;
-    let mut k: usize = 0;
-    while k < count {
+    let mut x = 0;
+    for k in 0..count {
         x = x * 256 + byte_at(bytes, from + k);
-        k += 1;
     }
     x
 }
@@ -75,7 +64,7 @@ fn cut_field(bytes: &[u8], start: usize, width: usize) -> u64
 pub fn read_bits(bytes: &[u8], start: usize, width: usize) -> u64
     ensures { (result ≡ get_bits start (min width widest) bytes.now) × (result < 2 ^ min width widest) }
 {
-    cut_field(bytes, start, lists::lesser(width, WIDEST))
+    cut_field(bytes, start, width.min(WIDEST))
 }
 
 // Byte i, if there is one, becomes `byte`.
@@ -93,11 +82,9 @@ fn store(bytes: &mut [u8], from: usize, n: usize, x: u64)
     ensures { Stored from n x 0 bytes.old bytes.new }
 {
     let mut rest = x;
-    let mut k = n;
-    while 0 < k {
-        k -= 1;
+    for k in (0..n).rev() {
         set_byte(bytes, from + k, narrow(rest));
-        rest = rest / 256;
+        rest /= 256;
     }
 }
 
@@ -130,7 +117,7 @@ fn put_field(bytes: &mut [u8], start: usize, width: usize, value: u64)
 pub fn write_bits(bytes: &mut [u8], start: usize, width: usize, value: u64)
     ensures { bytes.new ≡ set_bits start (min width widest) value bytes.old }
 {
-    put_field(bytes, start, lists::lesser(width, WIDEST), value);
+    put_field(bytes, start, width.min(WIDEST), value);
 }
 
 // Whether a number has no more bits than `width`.
@@ -148,11 +135,9 @@ fn digits_value(count: usize, code: u64) -> u64
     requires { count ≤ most_digits }
     ensures { result ≡ decimal_value count code }
 {
-    let mut value: u64 = 0;
-    let mut left = count;
-    while 0 < left {
-        left -= 1;
-        value = value * 10 + code / two_to(4 * left) % 16;
+    let mut value = 0;
+    for k in (0..count).rev() {
+        value = value * 10 + code / two_to(4 * k) % 16;
     }
     value
 }
@@ -168,35 +153,40 @@ fn digits_good(count: usize, code: u64) -> bool
 }
 
 // The code of the last `count` decimal digits of `value`.
-fn digits_code(count: u64, value: u64) -> u64
+fn digits_code(count: usize, value: u64) -> u64
     requires { count ≤ most_digits }
     ensures { result ≡ coded count value }
 {
-    if count == 0 {
-        return 0;
+    let mut code = 0;
+    let mut rest = value;
+    let mut place = 1;
+    for _ in 0..count {
+        code += rest % 10 * place;
+        place *= 16;
+        rest /= 10;
     }
-    digits_code(count - 1, value / 10) * 16 + value % 10
+    code
 }
 
 // The number that the last `count` digits of `code` say; of more digits than the most, the last ones.
 pub fn decimal_value(count: usize, code: u64) -> u64
     ensures { result ≡ decimal_value (min count most_digits) code }
 {
-    digits_value(lists::lesser(count, MOST_DIGITS), code)
+    digits_value(count.min(MOST_DIGITS), code)
 }
 
 // Whether each of the last `count` digits of `code`, or of more than the most the last ones, is at most 9.
 pub fn decimal_digits(count: usize, code: u64) -> bool
     ensures { result ≡ digits (min count most_digits) code }
 {
-    digits_good(lists::lesser(count, MOST_DIGITS), code)
+    digits_good(count.min(MOST_DIGITS), code)
 }
 
 // The code of the last `count` decimal digits of `value`; of more than the most, the last ones.
 pub fn decimal_code(count: usize, value: u64) -> u64
     ensures { result ≡ coded (min count most_digits) value }
 {
-    digits_code(lists::lesser(count, MOST_DIGITS) as u64, value)
+    digits_code(count.min(MOST_DIGITS), value)
 }
 
 // Whether a number has no more decimal digits than `count`.
@@ -204,10 +194,8 @@ pub fn fits_digits(count: usize, value: u64) -> bool
     ensures { result ≡ ltb value (10 ^ count) }
 {
     let mut rest = value;
-    let mut k: usize = 0;
-    while k < count {
-        rest = rest / 10;
-        k += 1;
+    for _ in 0..count {
+        rest /= 10;
     }
     rest == 0
 }

@@ -1,13 +1,15 @@
 -- The weighted sum of a block's bytes: where one of them is replaced, of lists with the same bytes, and past the last byte. Assumes
 -- nothing.
 use Prim.Native.Nat.{ℕ, zero, suc, ◌+◌, ◌*◌, ◌≤◌, ◌<◌, min}
-use mathlib.Core.Path.{◌≡◌, refl, ap, ◌∙◌}
+use mathlib.Core.Path.{◌≡◌, refl, ap, sym, ◌∙◌}
 use mathlib.Core.List.{List}
 use mathlib.Core.Logic.{⊎_elim}
 use native.Mathlib.Nat.{zero-mul}
+use native.Mathlib.Numerals.{add-one}
 use native.Mathlib.Omega.{arith}
-use lib.ListN.{get_or, length, set, get_or-eq_default}
+use lib.ListN.{get_or, length, set, take, get_or-eq_default}
 use lib.Seq.{get_or-set_same, get_or-set_other}
+use Rattle.std.proofs.lemmas.List.{get_or-take}
 use Rattle.lists.proofs.Order.{le-or-lt}
 use Rattle.block_check.specs.Check.{weighted}
 
@@ -45,6 +47,14 @@ pub weighted-same : (a b : List ℕ) (n : ℕ) → ((k : ℕ) → k < n → get_
 unfolding weighted
 weighted-same a b zero h = refl
 weighted-same a b (suc n) h = λ t. weighted-same a b n (λ k p. h k (omega arith)) t + h n (omega arith) t * suc n
+
+pub weighted_taken : (b : List ℕ) (n : ℕ) → weighted (take n b) n ≡ weighted b n
+weighted_taken b n = weighted-same (take n b) b n (λ k h. get_or-take n b k 0 h)
+
+-- one byte more, as a loop counts
+pub weighted_more : (b : List ℕ) (k : ℕ) → weighted b (k + 1) ≡ weighted b k + get_or b k 0 * (k + 1)
+unfolding weighted
+weighted_more b k = ap (weighted b) (add-one k) ∙ ap (λ (p : ℕ). weighted b k + get_or b k 0 * p) (sym (add-one k))
 
 -- past the last byte nothing is added
 weighted-past : (b : List ℕ) (n : ℕ) → length b ≤ n → weighted b n ≡ weighted b (length b)

@@ -23,20 +23,11 @@ pub const COVERED: usize = 510;
 
 const MODULUS: u32 = 65_521;
 
-fn wide(byte: u8) -> usize
-    ensures { (result ≡ byte) × (result < 256) }
-{
-    byte as usize
-}
-
 // Byte i, or 0 past the end.
 fn byte_at(bytes: &[u8], i: usize) -> usize
     ensures { (result ≡ get_or bytes.now i 0) × (result < 256) }
 {
-    if i < bytes.len() {
-        return wide(bytes[i]);
-    }
-    0
+    usize::from(bytes.get(i).copied().unwrap_or(0))
 }
 
 // The number that the two bytes from a place on make, high byte first. The place is tested first, so that the next one is a place.
@@ -56,19 +47,17 @@ fn weight(byte: u8, place: usize) -> u32
     requires { place ≤ covered }
     ensures { (result ≡ byte * place) × (result ≤ 255 * covered) }
 {
-    byte as u32 * (place as u32)
+    u32::from(byte) * place as u32
 }
 
 // The check of a block.
 pub fn check(block: &[u8]) -> usize
     ensures { (result ≡ check_of block.now) × (result < modulus) }
 {
-    let n = lists::lesser(COVERED, block.len());
-    let mut sum: u32 = 0;
-    let mut k: usize = 0;
-    while k < n {
-        sum += weight(block[k], k + 1);
-        k += 1;
+    let bytes = &block[..COVERED.min(block.len())];
+    let mut sum = 0;
+    for (k, byte) in bytes.iter().enumerate() {
+        sum += weight(*byte, k + 1);
     }
     (sum % MODULUS) as usize
 }

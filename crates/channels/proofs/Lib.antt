@@ -1,6 +1,4 @@
-mod Complement
 mod Interleave
 pub mod Sign
 pub mod OutThenIn
 pub mod InThenOut
-mod Room

@@ -1,14 +1,31 @@
 -- A byte and its signed reading: each gives the other back. Assumes nothing.
-use Prim.Native.Nat.{ℕ, ◌-◌, ◌≤◌, ◌<◌}
-use mathlib.Core.Path.{◌≡◌, ap, ◌∙◌}
-use mathlib.Core.Bool.{Bool, cond}
+use Prim.Native.Nat.{ℕ, suc, ◌-◌, ◌≤◌, ◌<◌}
+use mathlib.Core.Path.{◌≡◌, refl, ap, ◌∙◌}
+use mathlib.Core.Bool.{Bool, true, false, cond}
 use mathlib.Core.Logic.{⊎_elim}
 use native.Mathlib.Omega.{arith}
+use lib.Dec.{ltb}
 use lib.IntN.{ℤ, pos, negsuc}
 use lib.Signed.{mag}
+use mir.Syntax.{w8}
+use mir.Val.{sel, to_z, of_z}
 use borrow.Author.Tests.{lt-ltb, le-ltb}
 use Rattle.lists.proofs.Order.{le-or-lt}
 use Rattle.channels.specs.Sample.{signed_of, byte_of}
+
+-- as the library casts
+pub signed-cast : (b : ℕ) → to_z w8 b ≡ signed_of b
+unfolding signed_of
+signed-cast b = by-test (ltb b 128)
+  where
+    by-test : (t : Bool) → sel t (pos b) (negsuc (256 - suc b)) ≡ cond t (pos b) (negsuc (255 - b))
+    by-test true = refl
+    by-test false = ap negsuc (let e : 256 - suc b ≡ 255 - b = omega arith in e)
+
+pub byte-cast : (x : ℤ) → of_z w8 x ≡ byte_of x
+unfolding byte_of
+byte-cast (pos n) = refl
+byte-cast (negsuc n) = omega arith
 
 pub signed_low : (b : ℕ) → b < 128 → signed_of b ≡ pos b
 unfolding signed_of

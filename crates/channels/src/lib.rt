@@ -10,20 +10,14 @@ ghost use Rattle.channels.specs.Sample.{signed_of, byte_of, sample_of, channel_r
 pub fn signed(byte: u8) -> i8
     ensures { result ≡ signed_of byte }
 {
-    if byte < 128 {
-        return byte as i8;
-    }
-    -1 - ((255 - byte) as i8)
+    byte.cast_signed()
 }
 
 // The byte of a signed sample.
 pub fn unsigned(sample: i8) -> u8
     ensures { result ≡ byte_of sample }
 {
-    if sample >= 0 {
-        return sample as u8;
-    }
-    255 - ((-1 - sample) as u8)
+    sample.cast_unsigned()
 }
 
 // The first `count` samples of one channel, out to a lent buffer; places past them keep their contents.
@@ -33,11 +27,8 @@ fn copy_channel(stretch: &[u8], channel: usize, count: usize, out: &mut [i8])
     ensures { out.new ≡ over out.old (sample_of stretch.now channel) count }
 {
     let place = channel - 1;
-    let mut k: usize = 0;
-    while k < count {
-        let sample = signed(stretch[4 * k + place]);
-        out[k] = sample;
-        k += 1;
+    for k in 0..count {
+        out[k] = signed(stretch[4 * k + place]);
     }
 }
 
@@ -48,7 +39,7 @@ pub fn demultiplex(stretch: &[u8], channel: usize, out: &mut [i8])
     if (channel < 1) | (channel > 4) {
         return;
     }
-    let count = lists::lesser(stretch.len() / 4, out.len());
+    let count = out.len().min(stretch.len() / 4);
     copy_channel(stretch, channel, count, out);
 }
 
@@ -67,14 +58,12 @@ fn store_sets(stretch: &mut [u8], count: usize, one: &[i8], two: &[i8], three: &
     requires count_in_bounds_2 { (count ≤ length three.now) × (count ≤ length four.now) }
     ensures { stretch.new ≡ interleaved count one.now two.now three.now four.now }
 {
-    let mut k: usize = 0;
-    while k < count {
+    for k in 0..count {
         let first = 4 * k;
         store(stretch, first, one, k);
         store(stretch, first + 1, two, k);
         store(stretch, first + 2, three, k);
         store(stretch, first + 3, four, k);
-        k += 1;
     }
 }
 
@@ -82,9 +71,8 @@ fn store_sets(stretch: &mut [u8], count: usize, one: &[i8], two: &[i8], three: &
 pub fn multiplex(stretch: &mut [u8], one: &[i8], two: &[i8], three: &[i8], four: &[i8])
     ensures { stretch.new ≡ multiplexed stretch.old one.now two.now three.now four.now }
 {
-    let held = lists::lesser(one.len(), two.len());
-    let all_held = lists::lesser(held, lists::lesser(three.len(), four.len()));
-    let count = lists::lesser(stretch.len() / 4, all_held);
+    let held = one.len().min(two.len()).min(three.len()).min(four.len());
+    let count = held.min(stretch.len() / 4);
     let end = 4 * count;
     store_sets(&mut stretch[..end], count, one, two, three, four);
 }

@@ -5,9 +5,10 @@ use mathlib.Core.List.{List, [], ◌∷◌, ◌++◌}
 use mathlib.Core.Logic.{⊎_elim}
 use native.Mathlib.Nat.{add-zero, add-suc, suc-add, le_of_suc-le-suc, not-suc-le-zero, zero-add}
 use native.Mathlib.Omega.{arith}
-use lib.ListN.{get_or, length, set, drop, length-set, length-append, length-drop, get_or-append, get_or-eq_default}
+use lib.ListN.{get_or, length, set, take, drop, length-set, length-append, length-drop, get_or-append, get_or-eq_default}
 use lib.Seq.{ext_get_or, get_or-set_same, get_or-set_other, get_or-append-add, get_or-drop}
 use borrow.Author.Count.{below_more}
+use Rattle.std.proofs.lemmas.List.{length-take-le, get_or-take}
 use Rattle.lists.specs.Fill.{tab, over}
 use Rattle.lists.proofs.Order.{le-or-lt}
 
@@ -88,6 +89,13 @@ module _ {A : Type 0} where
   pub filled_at : {b : List A} {f : ℕ → A} {d : A} {m n : ℕ} {l : List A} → m ≡ n → n ≤ length b → Filled b f d m l
       → l ≡ over b f n
   filled_at {b} {f} {d} {m} {n} {l} e h o = filled-done {d = d} h (subst (λ (k : ℕ). Filled b f d k l) e o)
+
+  -- a buffer whose front is that of a list
+  pub over_front : (b l : List A) (d : A) (m n : ℕ) → m ≡ n → n ≤ length l → take m l ++ drop m b ≡ over b (λ k. get_or l k d) n
+  unfolding over
+  over_front b l d m n e h =
+      rw e (ap (λ (x : List A). x ++ drop n b)
+      (tab-ext (λ k. get_or l k d) n d (take n l) (length-take-le n l h) (λ i p. get_or-take n l i d p)))
 
   -- a buffer filled whole, by the entries of a list as long
   pub over-whole : (b l : List A) (d : A) → length l ≡ length b → over b (λ k. get_or l k d) (min (length l) (length b)) ≡ l

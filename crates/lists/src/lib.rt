@@ -9,17 +9,13 @@ ghost use Rattle.lists.specs.Fill.{over};
 pub fn lesser(a: usize, b: usize) -> usize
     ensures { result ≡ min a b }
 {
-    if a <= b { a } else { b }
+    a.min(b)
 }
 
 // As many bytes as both have, to the start of a lent buffer.
 pub fn copy(to: &mut [u8], from: &[u8])
     ensures { to.new ≡ over to.old (λ k. get_or from.now k 0) (min (length from.now) (length to.old)) }
 {
-    let n = lesser(from.len(), to.len());
-    let mut k: usize = 0;
-    while k < n {
-        to[k] = from[k];
-        k += 1;
-    }
+    let n = to.len().min(from.len());
+    to[..n].copy_from_slice(&from[..n]);
 }

@@ -6,9 +6,9 @@ use mathlib.Core.Bool.{Bool}
 use mathlib.Core.List.{List, [], ◌∷◌, ◌++◌}
 use mathlib.Core.Logic.{⊎_elim}
 use Prim.Native.Nat.{ℕ, zero, suc, ◌+◌, ◌*◌, ◌-◌, ◌/◌, ◌%◌, ◌^◌, ◌≤◌, ◌<◌}
-use native.Mathlib.Nat.{div-lt_iff_lt-mul, pow-suc, lt_of_lt_of_le}
+use native.Mathlib.Nat.{div-lt_iff_lt-mul, pow-suc}
 use native.Mathlib.Omega.{arith}
-use lib.Dec.{ltb, lit<, lit≤}
+use lib.Dec.{ltb, lit<}
 use lib.ListN.{length, get_or, length-append, get_or-append}
 use borrow.Author.Tests.{lt-ltb, le-ltb}
 use Rattle.lists.proofs.Order.{le-or-lt}
@@ -75,10 +75,6 @@ length-suc (suc k) n h =
 pub decimal-length : (k n : ℕ) → 0 < k → n < 10 ^ k → length (decimal_text n) ≤ k
 decimal-length zero n p h = absurd (omega arith)
 decimal-length (suc k) n p h = length-suc k n h
-
--- a number of 64 bits has at most 20 digits
-pub word-digits : (n : ℕ) → n < 2 ^ 64 → length (decimal_text n) ≤ 20
-word-digits n h = decimal-length 20 n (lit< tt) (lt_of_lt_of_le h (lit≤ tt))
 
 -- the first of two or more digits is no zero
 pub no-leading-zero : (n : ℕ) → 10 ≤ n → 48 < get_or (decimal_text n) 0 0

@@ -44,10 +44,6 @@ behind-both size at n m =
     behind-exact : at + n ≤ size → place_behind size (at + n) m ≡ place_behind size at (n + m)
     behind-exact h = omega arith
 
--- a byte that is not written
-pub byte_past : (l : List ℕ) (i x : ℕ) → length l ≤ i → Written l i (x ∷ []) i l
-byte_past l i x h = record { place = omega arith; buffer = sym (set_out l i x h) }
-
 -- a text of no byte
 pub nothing : (l : List ℕ) (i : ℕ) → Written l i [] i l
 nothing l i = record { place = omega arith; buffer = refl }

@@ -2,8 +2,7 @@
 // the place behind what it wrote.
 #![tactic(auto)]
 
-ghost use Rattle.std.specs.Prelude.{◌≡◌, [], ◌∷◌, pos, nat_abs};
-ghost use Rattle.std.specs.Int.Signed.{lt_z};
+ghost use Rattle.std.specs.Prelude.{[], ◌∷◌};
 ghost use Rattle.numbers.specs.Number.{digit, decimal_text, fixed, minus, signed_decimal, signed_fixed};
 ghost use Rattle.numbers.specs.Writing.{Written};
 
@@ -22,7 +21,7 @@ pub fn write_byte(out: &mut [u8], at: usize, byte: u8) -> usize
 fn write_digit(out: &mut [u8], at: usize, n: u64) -> usize
     ensures { Written out.old at (digit n ∷ []) result out.new }
 {
-    write_byte(out, at, 48 + ((n % 10) as u8))
+    write_byte(out, at, b'0' + (n % 10) as u8)
 }
 
 // Writes the leading digits, then the last.
@@ -50,28 +49,11 @@ pub fn write_fixed(out: &mut [u8], at: usize, places: usize, n: u64) -> usize
     }
 }
 
-// How far z is from zero. -1 - z fits where -z does not, at the least number.
-fn magnitude(z: i64) -> u64
-    ensures { result ≡ nat_abs z }
-{
-    if z < 0 {
-        ((-1 - z) as u64) + 1
-    } else {
-        z as u64
-    }
-}
-
-fn below_zero(z: i64) -> bool
-    ensures { result ≡ lt_z z (pos 0) }
-{
-    z < 0
-}
-
 // Writes a minus below zero, else nothing.
 fn write_minus(out: &mut [u8], at: usize, value: i64) -> usize
     ensures { Written out.old at (minus value) result out.new }
 {
-    if below_zero(value) {
+    if value < 0 {
         write_byte(out, at, b'-')
     } else {
         at
@@ -82,24 +64,22 @@ pub fn write_signed_decimal(out: &mut [u8], at: usize, value: i64) -> usize
     ensures { Written out.old at (signed_decimal value) result out.new }
 {
     let digits_at = write_minus(out, at, value);
-    write_decimal(out, digits_at, magnitude(value))
+    write_decimal(out, digits_at, value.unsigned_abs())
 }
 
 pub fn write_signed_fixed(out: &mut [u8], at: usize, places: usize, value: i64) -> usize
     ensures { Written out.old at (signed_fixed places value) result out.new }
 {
     let digits_at = write_minus(out, at, value);
-    write_fixed(out, digits_at, places, magnitude(value))
+    write_fixed(out, digits_at, places, value.unsigned_abs())
 }
 
 pub fn write_text(out: &mut [u8], at: usize, text: &[u8]) -> usize
     ensures { Written out.old at text.now result out.new }
 {
     let mut next = at;
-    let mut i = 0;
-    while i < text.len() {
-        next = write_byte(out, next, text[i]);
-        i += 1;
+    for byte in text {
+        next = write_byte(out, next, *byte);
     }
     next
 }

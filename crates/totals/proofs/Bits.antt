@@ -1,13 +1,13 @@
 -- Signed numbers: their size, their squares, and how the code's bits show them. Assumes nothing.
-use mathlib.Core.Path.{◌≡◌, refl, sym, ap, ◌∙◌, subst}
+use mathlib.Core.Path.{◌≡◌, refl, ap, ◌∙◌}
 use mathlib.Core.Bool.{Bool, true, false, cond, ◌||◌}
 use Prim.Native.Nat.{ℕ, suc, ◌+◌, ◌-◌, ◌*◌, ◌≤◌, ◌<◌}
 use native.Mathlib.Nat.{mul-le-mul}
 use native.Mathlib.Omega.{arith}
 use lib.IntN.{ℤ, pos, negsuc, nat_abs, sub_ℕ, ◌+ℤ◌, ◌*ℤ◌}
-use lib.Signed.{mag, lt_z}
+use lib.Signed.{mag}
 use lib.Dec.{T, ltb, eqb, ltb→lt}
-use mir.Syntax.{Width, w8, w64}
+use mir.Syntax.{Width, w8}
 use mir.Val.{SFits, to_z, of_z}
 use mir.Facts.{to_z-of_z, sfits_lit}
 use borrow.Author.Tests.{eqb-true, eqb-false, eq-eqb, ne_eqb}
@@ -45,22 +45,9 @@ pub square : (z : ℤ) → z *ℤ z ≡ pos (nat_abs z * nat_abs z)
 square (pos n) = refl
 square (negsuc n) = refl
 
--- the square of a signed byte fits 64 bits
-pub square-fits : {z : ℤ} → SFits w8 z → SFits w64 (z *ℤ z)
-square-fits {z} h = subst (SFits w64) (sym (square z)) (record { sfits = omega (arith, byte-square h) })
-
 -- a byte widened, as the code has it
 pub widens : (w : Width) {z : ℤ} → SFits w z → SFits w8 z → to_z w (of_z w (to_z w8 (of_z w8 z))) ≡ z
 widens w {z} k h = ap (λ (y : ℤ). to_z w (of_z w y)) (to_z-of_z h) ∙ to_z-of_z k
-
--- a test of two numbers' bits is the test of the numbers
-tested : {a b : ℤ} {t : Bool} → SFits w8 a → SFits w8 b → lt_z (to_z w8 (of_z w8 a)) (to_z w8 (of_z w8 b)) ≡ t → lt_z a b ≡ t
-tested {a} {b} ha hb e = rw (to_z-of_z ha, to_z-of_z hb) at e
-
--- one of two numbers, z, that the test gives
-pub picked : {a b z : ℤ} {t : Bool} → SFits w8 a → SFits w8 b → SFits w8 z → lt_z (to_z w8 (of_z w8 a)) (to_z w8 (of_z w8 b)) ≡ t
-    → (x y : ℤ) → z ≡ cond t x y → to_z w8 (of_z w8 z) ≡ cond (lt_z a b) x y
-picked fa fb fz e x y q = to_z-of_z fz ∙ q ∙ sym (ap (λ (s : Bool). cond s x y) (tested fa fb e))
 
 -- bytes have the same bits where they are the same number
 same_bits : (a b : ℤ) → SFits w8 a → SFits w8 b → eqb (of_z w8 a) (of_z w8 b) ≡ is_same a b

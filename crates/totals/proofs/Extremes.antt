@@ -15,6 +15,8 @@ use mir.Syntax.{w8}
 use mir.Val.{SFits}
 use mir.Facts.{sfits_lit}
 use borrow.Author.Tests.{le-ltb}
+use Rattle.std.specs.Int.{int_min, int_max}
+use Rattle.std.proofs.lemmas.Int.{ints, clamps}
 use Rattle.totals.specs.Total.{lesser, greater, kept_of, least_of, greatest_of}
 use Rattle.totals.proofs.Samples.{Bytes, byte-in}
 
@@ -27,9 +29,6 @@ pub record Picks (Before : ℤ → ℤ → Type 0) (rule : ℤ → ℤ → ℤ) 
   pub trans : {a b c : ℤ} → Before a b → Before b c → Before a c
 
 module _ {Before : ℤ → ℤ → Type 0} {rule : ℤ → ℤ → ℤ} (p : Picks Before rule) where
-  pub kept-fits : {a b : ℤ} → SFits w8 a → SFits w8 b → SFits w8 (rule a b)
-  kept-fits {a} {b} f g = ⊎_elim (λ e. rw e f) (λ e. rw e g) (p.one a b)
-
   fold-in : (x : ℤ) (l : List ℤ) → Memᴰ (foldl rule x l) (x ∷ l)
   fold-in x [] = Memᴰ.head refl
   fold-in x (y ∷ l) =
@@ -107,6 +106,15 @@ greater-picks =
       same = ≤ℤ_refl;
       trans = λ h k. ≤ℤ-trans k h;
     }
+
+-- as the library picks
+pub lesser-min : (a b : ℤ) → int_min a b ≡ lesser a b
+unfolding lesser
+lesser-min a b = grind (arith, ints, clamps)
+
+pub greater-max : (a b : ℤ) → int_max a b ≡ greater a b
+unfolding greater
+greater-max a b = grind (arith, ints, clamps)
 
 -- the least is one of the samples, at most each, and a signed byte; the greatest is one of them, at least each, and a signed byte
 pub least-in : (l : List ℤ) → 0 < length l → Memᴰ (least_of l) l

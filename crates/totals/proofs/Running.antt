@@ -7,7 +7,7 @@ use native.Mathlib.Numerals.{add-one}
 use native.Mathlib.Omega.{arith}
 use lib.IntN.{ℤ, pos, negsuc, ◌+ℤ◌, +ℤ_idr}
 use lib.ListN.{length, length-append}
-use mir.Syntax.{w8, w64}
+use mir.Syntax.{w8}
 use mir.Val.{SFits}
 use Rattle.lists.proofs.Fill.{length-tab}
 use Rattle.totals.specs.declared.Total.{Total}
@@ -26,7 +26,6 @@ use Rattle.totals.specs.Total.{
   count_limit,
 }
 use Rattle.totals.specs.Running.{next_of, Room, running_of, runnings_of, total_at, channel_next}
-use Rattle.totals.proofs.Bits.{mag≤abs, abs-sum, byte-abs}
 use Rattle.totals.proofs.Samples.{Bytes, bytes-append, samples-bytes, samples-more}
 use Rattle.totals.proofs.Sums.{sum-append, added_more, sum_bound, squares-bound, clipped-bound}
 use Rattle.totals.proofs.Extremes.{lesser-start, greater-start}
@@ -62,13 +61,6 @@ total-more l x h f p =
     sym (running-total (l ++ x ∷ []) (bytes-append l (x ∷ []) h (f, tt)) (omega (arith, length-append l (x ∷ []))))
     ∙ running_more l x
     ∙ ap (λ (t : Total). next_of t x) (running-total l h p)
-
--- a sum with room is a signed word, and so is the sum with one sample more
-pub room_fits : {t : Total} → Room t → SFits w64 t.sum
-room_fits {t} h = record { sfits = omega (arith, h.sums, mag≤abs t.sum) }
-
-pub room-sum : {t : Total} {x : ℤ} → Room t → SFits w8 x → SFits w64 (t.sum +ℤ x)
-room-sum {t} {x} h f = record { sfits = omega (arith, h.sums, mag≤abs (t.sum +ℤ x), abs-sum t.sum x, byte-abs f) }
 
 pub running-room : (l : List ℤ) → Bytes l → length l < count_limit → Room (running_of l)
 unfolding running_of

@@ -4,7 +4,7 @@
 
 ghost use Rattle.std.specs.Prelude.{◌≡◌, ◌+◌, ◌*◌, ◌≤◌, ◌<◌, nat_abs, length};
 ghost use Rattle.channels.specs.Sample.{sample_of};
-ghost use Rattle.totals.specs.Total.{lesser, greater, clipped_one, totals_of, count_limit, set_count};
+ghost use Rattle.totals.specs.Total.{clipped_one, totals_of, count_limit, set_count};
 ghost use Rattle.totals.specs.Running.{next_of, Room, runnings_of, total_at, channel_next};
 
 // The most samples a channel that one call takes: more than any record has.
@@ -30,41 +30,19 @@ pub const NO_TOTAL: Total = Total {
     clipped: 0,
 };
 
-fn widened(sample: i8) -> i64
-    ensures { result ≡ sample }
-{
-    sample as i64
-}
-
 // Made in 64 bits, as the sum is: one widening of the sample serves both.
 fn squared(sample: i8) -> u64
     ensures { result ≡ nat_abs sample * nat_abs sample }
 {
-    let wide = sample as i64;
+    let wide = i64::from(sample);
     (wide * wide) as u64
-}
-
-fn lesser(a: i8, b: i8) -> i8
-    ensures { result ≡ lesser a b }
-{
-    if a < b { a } else { b }
-}
-
-fn greater(a: i8, b: i8) -> i8
-    ensures { result ≡ greater a b }
-{
-    if b < a { a } else { b }
 }
 
 // 1 for a sample at an end of the converter's range.
 fn clipped_one(sample: i8) -> u32
     ensures { result ≡ clipped_one sample }
 {
-    if (sample == -128) | (sample == 127) {
-        1
-    } else {
-        0
-    }
+    u32::from((sample == -128) | (sample == 127))
 }
 
 impl Total {
@@ -74,10 +52,10 @@ impl Total {
         ensures { result ≡ next_of self sample }
     {
         Total {
-            sum: self.sum + widened(sample),
+            sum: self.sum + i64::from(sample),
             squares: self.squares + squared(sample),
-            least: lesser(self.least, sample),
-            greatest: greater(self.greatest, sample),
+            least: self.least.min(sample),
+            greatest: self.greatest.max(sample),
             clipped: self.clipped + clipped_one(sample),
         }
     }
@@ -131,11 +109,10 @@ fn sum_sets(stretch: &[u8], count: usize) -> [Total; 4]
         clipped: 0,
     };
     let mut totals = [start; 4];
-    let mut k = 0;
-    while k < count {
+    for k in 0..count {
+        // Named first: of an array, a call's result is covered only where it is new.
         let next = with_samples(totals, stretch, k);
         totals = next;
-        k += 1;
     }
     totals
 }
@@ -144,5 +121,5 @@ fn sum_sets(stretch: &[u8], count: usize) -> [Total; 4]
 pub fn stretch_totals(stretch: &[u8]) -> [Total; 4]
     ensures { result ≡ totals_of stretch.now (set_count stretch.now) }
 {
-    sum_sets(stretch, lists::lesser(stretch.len() / 4, COUNT_LIMIT))
+    sum_sets(stretch, COUNT_LIMIT.min(stretch.len() / 4))
 }

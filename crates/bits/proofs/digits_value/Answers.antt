@@ -3,33 +3,30 @@ use Rattle.bits.proofs.Decimal.{digits-none, digits_more, digits-whole, decimal-
 use mathlib.Core.Path.{refl, ◌∙◌}
 use Prim.Native.Nat.{◌-◌, ◌*◌, ◌^◌, ◌/◌, ◌%◌, ◌+◌}
 use native.Mathlib.Omega.{arith}
-use borrow.Author.Rules.{rules}
 use Rattle.bits.proofs.digits_value.Goals as goal
 
-pub loop-left-init : goal.loop-left-init
-loop-left-init c =
+pub loop-k-init : goal.loop-k-init
+loop-k-init c =
     let a = c.args in
-    (search rules, digits-none a.count a.count (a.code / 2 ^ (4 * a.count)) refl)
+    digits-none a.count a.count (a.code / 2 ^ (4 * a.count)) refl
 
 pub overflow_mul-value : goal.overflow_mul-value
 overflow_mul-value c =
     let a = c.args in
-    omega (arith, decimal-small (a.count - c.loop-left.left) (a.code / 2 ^ (4 * c.loop-left.left)) (omega arith))
+    omega (arith, decimal-small (a.count - c.loop-k.k) (a.code / 2 ^ (4 * c.loop-k.k)) (omega arith))
 
 pub overflow_add-value : goal.overflow_add-value
 overflow_add-value c =
     let a = c.args in
-    omega (arith, decimal-small (a.count - c.loop-left.left) (a.code / 2 ^ (4 * c.loop-left.left)) (omega arith))
+    omega (arith, decimal-small (a.count - c.loop-k.k) (a.code / 2 ^ (4 * c.loop-k.k)) (omega arith))
 
-pub loop-left-preserved : goal.loop-left-preserved
-loop-left-preserved c =
-    let a = c.args in (
-      search rules,
-      (λ i. c.loop-left.invariant.1 i * 10 + a.code / c.two_to.ensures.0 i % 16)
-          ∙ digits_more a.count c.loop-left.left a.code (search rules) (search rules),
-    )
+pub loop-k-preserved : goal.loop-k-preserved
+loop-k-preserved c =
+    let a = c.args in
+    (λ i. c.loop-k.invariant i * 10 + a.code / c.two_to.ensures.0 i % 16)
+    ∙ digits_more a.count c.loop-k.k a.code (omega arith) (omega arith)
 
 pub returns : goal.returns
 returns c =
     let a = c.args in
-    c.loop-left.invariant.1 ∙ digits-whole a.count c.loop-left.left a.code (search rules)
+    c.loop-k.invariant ∙ digits-whole a.count c.loop-k.k a.code (omega arith)

@@ -1,15 +1,13 @@
 -- The loop over the bytes of a window: the invariant says the number made so far.
-use mathlib.Core.Path.{◌≡◌, sym, ◌∙◌, ap}
-use Prim.Native.Nat.{ℕ, ◌+◌, ◌*◌}
+use mathlib.Core.Path.{◌≡◌, sym}
+use Prim.Native.Nat.{◌+◌, ◌*◌}
 use lib.ListN.{get_or}
 use native.Mathlib.Omega.{arith}
-use borrow.Author.Rules.{rules}
-use Rattle.bits.specs.Bits.{get_bits}
 use Rattle.bits.proofs.Reading.{more, within, none}
 use Rattle.bits.proofs.window.Goals as goal
 
 pub loop-k-init : goal.loop-k-init
-loop-k-init c = (search rules, sym (none (8 * c.args.from) c.args.bytes.now))
+loop-k-init c = sym (none (8 * c.args.from) c.args.bytes.now)
 
 pub overflow_mul-x : goal.overflow_mul-x
 overflow_mul-x c =
@@ -25,10 +23,4 @@ pub loop-k-preserved : goal.loop-k-preserved
 loop-k-preserved c =
     let a = c.args in
     let e : c.byte_at.result ≡ get_or a.bytes.now (a.from + c.loop-k.k) 0 = c.byte_at.ensures.0 in
-    (search rules, omega (arith, e, more a.from c.loop-k.k a.bytes.now (omega (arith, e))))
-
-pub returns : goal.returns
-returns c =
-    let a = c.args in
-    let e : c.loop-k.k ≡ a.count = omega arith in
-    c.loop-k.invariant.1 ∙ ap (λ (z : ℕ). get_bits (8 * a.from) (8 * z) a.bytes.now) e
+    omega (arith, e, more a.from c.loop-k.k a.bytes.now (omega (arith, e)))

@@ -1,11 +1,7 @@
-use Prim.Native.Nat.{◌≤◌, ◌-◌}
 use lib.IntN.{pos}
 use Rattle.lists.proofs.Fill.{Filled}
 use Rattle.channels.specs.Sample.{sample_of}
 use Rattle.channels.proofs.copy_channel.Given as goal
 
 abbrev pub invariant-loop-k : goal.invariant-loop-k
-invariant-loop-k l = (l.k ≤ l.count) × Filled l.initial.out (sample_of l.stretch l.channel) (pos 0) l.k l.out
-
-abbrev pub decreases-loop-k : goal.decreases-loop-k
-decreases-loop-k l = l.count - l.k
+invariant-loop-k l = Filled l.initial.out (sample_of l.stretch l.channel) (pos 0) l.k l.out

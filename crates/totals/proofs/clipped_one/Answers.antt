@@ -1,10 +1,11 @@
-use mathlib.Core.Path.{sym, ◌∙◌}
-use mathlib.Core.Bool.{cond}
+use Rattle.std.proofs.Common.{◌≡◌, ap, ◌∙◌, Bool, true, false, cond, refl}
+use mir.Val.{bool_byte}
 use Rattle.totals.proofs.Bits.{clipped-bits}
 use Rattle.totals.proofs.clipped_one.Goals as goal
 
-pub returns-then-sample : goal.returns-then-sample
-returns-then-sample c = λ i. cond ((sym c.if-sample.true ∙ clipped-bits c.ranges.sample) i) 1 0
+one-or-none : (t : Bool) → bool_byte t ≡ cond t 1 0
+one-or-none true = refl
+one-or-none false = refl
 
-pub returns-else-sample : goal.returns-else-sample
-returns-else-sample c = λ i. cond ((sym c.if-sample.false ∙ clipped-bits c.ranges.sample) i) 1 0
+pub returns : goal.returns
+returns c = c.from.ensures ∙ ap bool_byte (clipped-bits c.ranges.sample) ∙ one-or-none _

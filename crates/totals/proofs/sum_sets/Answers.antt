@@ -12,17 +12,11 @@ returns-then-count-eq0 c = rw c.if-count-eq0.true
 
 pub loop-k-init : goal.loop-k-init
 unfolding runnings_of running_of sum_of added_of
-loop-k-init c = (omega arith, refl)
-
-pub with_samples-next-requires : goal.with_samples-next-requires
-with_samples-next-requires c = (c.loop-k.invariant.1, omega arith, omega arith)
-
-pub loop-k-preserved : goal.loop-k-preserved
-loop-k-preserved c = (omega arith, c.with_samples-next.ensures)
+loop-k-init c = refl
 
 pub returns : goal.returns
 returns c =
     let l = c.loop-k in
     let e : l.k ≡ c.args.count = omega arith in
-    l.invariant.1 ∙ ap (runnings_of c.args.stretch.now) e
+    l.invariant ∙ ap (runnings_of c.args.stretch.now) e
     ∙ runnings-totals c.args.stretch.now c.args.count (pos_of_ne-zero c.if-count-eq0.false)

@@ -1,7 +1,0 @@
-use mathlib.Core.Path.{sym}
-use lib.Seq.{set_out}
-use borrow.Author.Rules.{rules}
-use Rattle.bits.proofs.set_byte.Goals as goal
-
-pub returns-else-i-bytes : goal.returns-else-i-bytes
-returns-else-i-bytes c = sym (set_out c.args.bytes.now c.args.i c.args.byte (search rules))
