@@ -2,10 +2,10 @@
 #![tactic(auto)]
 
 ghost use Rattle.std.specs.Prelude.{◌≡◌, ◌%◌, ◌^◌, ◌<◌, [], pos};
+ghost use Rattle.answers.specs.Refused.{answer_in, answer_by};
 ghost use Rattle.header.specs.Edition.{fraction_bits};
 ghost use Rattle.sample_rates.specs.Rates.{most_samples};
 ghost use Rattle.phase.specs.Phase.{InCycles};
-ghost use Rattle.answers.specs.Refused.{answer_in, answer_by};
 ghost use Rattle.times.specs.SampleTime.{from_tag, time_of, sample_time, time_answer};
 ghost use Rattle.times.specs.Phases.{both, phase_answer, Exactly};
 
