@@ -1,10 +1,9 @@
 -- The frequency rate as a signed number, in units of 0.00001 Hz/s: five digits times a power of ten; sign bit 0 is negative, 1
 -- positive; zero has one value. FORMAT, "Frequency rate".
 use Rattle.std.specs.Prelude.{ℕ, ◌*◌, ◌^◌, cond, List, eqb, ℤ, pos, neg_ℤ}
-use Rattle.answers.specs.Answer.{Answer, accepted, refused, unless}
+use Rattle.answers.specs.Answer.{Answer, unless}
 use Rattle.fields.specs.Field.{value_of}
 use Rattle.header.specs.Rows.{frequency_rate_digits, frequency_rate_power, frequency_rate_sign}
-use Rattle.frequency_rate.specs.declared.FrequencyRateAnswer.{FrequencyRateAnswer}
 use Rattle.record.specs.Record.{record_refusal}
 
 -- five digits of four bits, decimal or not, are less than this
@@ -23,8 +22,3 @@ frequency_rate_of b =
 -- of a record of the edition n, or its refusal
 unfoldable pub frequency_rate_answer : ℕ → List ℕ → Answer ℤ
 frequency_rate_answer n b = unless (record_refusal n b) (pos 0) (frequency_rate_of b)
-
--- the number and the value for each case of the code's answer
-abbrev pub shown_frequency_rate : FrequencyRateAnswer → Answer ℤ
-shown_frequency_rate (FrequencyRateAnswer.Units x) = accepted x
-shown_frequency_rate (FrequencyRateAnswer.Refused k) = refused (pos 0) k

@@ -1,29 +1,30 @@
--- The search for a segment's number, row by row. Assumes nothing.
-use Prim.Native.Nat.{ℕ, ◌+◌, ◌≤◌, ◌<◌}
-use mathlib.Core.Path.{◌≡◌, ap, sym, ◌∙◌}
-use mathlib.Core.Bool.{Bool, cond}
-use mathlib.Core.List.{List, ◌∷◌}
-use native.Mathlib.Numerals.{add-one}
-use lib.Dec.{eqb}
-use lib.ListN.{length, get_or, drop, drop_of_length-le}
-use lib.Seq.{drop-cons}
-use borrow.Author.Tests.{eq-eqb, ne_eqb}
+-- The search for a segment's number among those of the rows. Assumes nothing.
+use Prim.Native.Nat.{ℕ, ◌≤◌}
+use mathlib.Core.Path.{◌≡◌, refl, sym, ◌∙◌}
+use mathlib.Core.Bool.{Bool, true, false, cond}
+use mathlib.Core.List.{List}
+use native.Mathlib.Omega.{arith}
+use lib.Dec.{eqb, ltb}
+use lib.ListN.{length}
+use borrow.Author.Tests.{ltb-false}
+use Rattle.std.specs.Prelude.{Some, None, unwrap_or, position}
+use Rattle.std.specs.List.{position_or_len}
+use Rattle.std.proofs.lemmas.List.Recursion.{is_position_or_len}
+use Rattle.std.proofs.lemmas.List.Sums.{prefix_len-le-length}
 use Rattle.monitor.specs.Monitor.{place_in}
 
-module _ (ms : List ℕ) (number k : ℕ) (h : k < length ms) where
-  rest : drop k ms ≡ get_or ms k 0 ∷ drop (k + 1) ms
-  rest = drop-cons ms k 0 h ∙ ap (λ (n : ℕ). get_or ms k 0 ∷ drop n ms) (sym (add-one k))
+module _ (ms : List ℕ) (number : ℕ) where
+  abbrev at : ℕ
+  at = position_or_len (λ m. eqb m number) ms
 
-  step : (b : Bool) → eqb (get_or ms k 0) number ≡ b → place_in (drop k ms) number ≡ cond b 0 (1 + place_in (drop (k + 1) ms) number)
+  -- the place of a number is where the library finds it first, and where it does not, the length
+  pub place : place_in ms number ≡ unwrap_or (position (λ m. eqb m number) ms) (length ms)
   unfolding place_in
-  step b e = ap (λ (l : List ℕ). place_in l number) rest ∙ ap (λ (t : Bool). cond t 0 (1 + place_in (drop (k + 1) ms) number)) e
-
-  pub found : get_or ms k 0 ≡ number → place_in (drop k ms) number ≡ 0
-  found e = step _ (eq-eqb _ _ e)
-
-  pub passed : (get_or ms k 0 ≡ number → ⊥) → place_in (drop k ms) number ≡ 1 + place_in (drop (k + 1) ms) number
-  passed e = step _ (ne_eqb _ _ e)
-
-pub none_left : (ms : List ℕ) (number k : ℕ) → length ms ≤ k → place_in (drop k ms) number ≡ 0
-unfolding place_in
-none_left ms number k h = ap (λ (l : List ℕ). place_in l number) (drop_of_length-le ms {i = k} h)
+  place =
+      is_position_or_len (λ l. place_in l number) (λ m. eqb m number) refl (λ m l. refl) ms ∙ sym (by-test (ltb at (length ms)) refl)
+    where
+      by-test : (t : Bool) → ltb at (length ms) ≡ t → unwrap_or (cond t (Some at) None) (length ms) ≡ at
+      by-test true a = refl
+      by-test false a =
+          let most : at ≤ length ms = prefix_len-le-length _ ms in
+          omega (arith, ltb-false at (length ms) a, most)

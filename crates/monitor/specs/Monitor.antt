@@ -1,6 +1,7 @@
 -- The words after a record's samples, and which of two records of one edition a segment is taken from. A segment is its row here,
 -- from 0, in the order of the status bits. FORMAT, "Monitor segments".
 use Rattle.std.specs.Prelude.{ℕ, ◌+◌, ◌-◌, ◌*◌, Bool, cond, not, ◌&&◌, List, [], ◌∷◌, eqb, leb, take, drop}
+use Rattle.std.specs.Borrow.{Bor}
 use Rattle.bits.specs.Bits.{get_bits}
 use Rattle.header.specs.Edition.{no_segments}
 use Rattle.sample_rates.specs.Rates.{last_sample_word, layout1985}
@@ -63,6 +64,14 @@ row_refusal n this earlier row =
 -- this record if the segment is new there, else the earlier one
 unfoldable pub chosen_record : ℕ → List ℕ → List ℕ → ℕ → List ℕ
 chosen_record n this earlier row = cond (is_new n this row) this earlier
+
+-- the row, and the record that is chosen; beside a refusal none
+abbrev pub choice : ℕ → List ℕ → List ℕ → ℕ → Answer (ℕ × List ℕ)
+choice n this earlier row = unless (row_refusal n this earlier row) (0, []) (row, chosen_record n this earlier row)
+
+-- the same of the code's row and record
+abbrev pub choice_of : ℕ × Bor (List ℕ) → ℕ × List ℕ
+choice_of c = (c.0, c.1.now)
 
 -- the bytes of `count` words from word `first` on, of the record that is chosen; none beside a refusal
 abbrev pub row_answer : ℕ → List ℕ → List ℕ → ℕ → ℕ → ℕ → Answer (List ℕ)

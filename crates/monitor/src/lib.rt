@@ -3,24 +3,21 @@
 // FORMAT, "Monitor segments", "Refusal numbers".
 #![tactic(auto)]
 
-ghost use Rattle.std.specs.Prelude.{◌≡◌, ◌+◌, ◌*◌, ◌≤◌};
-ghost use Rattle.monitor.specs.Monitor.{place_in, segment_count, last_sample_word_of, most_last_word, monitor_byte, monitor_bytes, is_new, row_refusal, chosen_record, row_answer};
+ghost use Rattle.std.specs.Prelude.{◌≡◌, ◌+◌, ◌*◌, ◌≤◌, ◌<◌, [], IfSome, position, ◌==◌};
+ghost use Rattle.answers.specs.Refused.{answer_by};
+ghost use Rattle.monitor.specs.Monitor.{place_in, segment_count, last_sample_word_of, most_last_word, monitor_byte, monitor_bytes, is_new, choice_of, choice};
+
+use answers::Refusal;
 
 // The segments of an edition that has any, a bit of the status for each.
 pub const SEGMENT_COUNT: usize = 7;
 
-// The row, from 0, of a segment's number among those of all rows, or the count of rows where none has it.
-pub fn row_of(numbers: [u64; SEGMENT_COUNT], number: u64) -> u8
-    ensures { (result ≡ place_in numbers number) × (result ≤ segment_count) }
+// The row, from 0, of a segment's number among those of all rows.
+fn row_of(numbers: [u64; SEGMENT_COUNT], number: u64) -> Option<usize>
+    ensures place { result ≡ position (λ entry. entry == number) numbers }
+    ensures inside { IfSome result (λ row. row < segment_count) }
 {
-    let mut row: u8 = 0;
-    while (row as usize) < SEGMENT_COUNT {
-        if numbers[row as usize] == number {
-            return row;
-        }
-        row += 1;
-    }
-    row
+    numbers.iter().position(|entry| *entry == number)
 }
 
 // The last word of a record's samples.
@@ -43,64 +40,49 @@ fn byte_of(edition: u64, bytes: &[u8], word: u8) -> usize
 }
 
 // The bytes of `count` words after the samples from word `first` on, as many as the record has.
-fn monitor_bytes<'a>(edition: u64, bytes: &'a [u8], first: u8, count: u8) -> &'a [u8]
+pub fn monitor_bytes<'a>(edition: u64, bytes: &'a [u8], first: u8, count: u8) -> &'a [u8]
     ensures { result.now ≡ monitor_bytes edition bytes.now first count }
 {
     let start = byte_of(edition, bytes, first);
     let end = start + 2 * count as usize;
-    let from = lists::lesser(start, bytes.len());
-    let to = lists::lesser(end, bytes.len());
+    let from = start.min(bytes.len());
+    let to = end.min(bytes.len());
     &bytes[from..to]
 }
 
 // Whether the segment of a row is new in a record. Word 1 is the status, whose bit 1 is row 0's.
-fn is_new(edition: u64, bytes: &[u8], row: u8) -> bool
+fn is_new(edition: u64, bytes: &[u8], row: usize) -> bool
+    requires { row < segment_count }
     ensures { result ≡ is_new edition bytes.now row }
 {
     let status = byte_of(edition, bytes, 1);
-    let status_bit = row as usize + 1;
+    let status_bit = row + 1;
     bits::read_bits(bytes, 8 * status + status_bit - 1, 1) == 1
 }
 
-// The refusal of a question for the segment of a row: that of this record, then of the earlier one, then 26, 20 and 23.
-pub fn refusal_of(edition: u64, this: &[u8], earlier: &[u8], row: u8) -> u8
-    ensures { result ≡ row_refusal edition this.now earlier.now row }
-{
-    let in_this = is_new(edition, this, row);
-    let in_earlier = is_new(edition, earlier, row);
-    let not_new = answers::check(23, !in_this & !in_earlier, 0);
-    let none = editions::no_segments(edition);
-    let no_row = answers::check(20, row as usize >= SEGMENT_COUNT, not_new);
-    let no_segment = answers::check(26, none, no_row);
-    let refusal = record::refusal_of(edition, this);
-    let earlier_refusal = record::refusal_of(edition, earlier);
-    answers::first_refusal(refusal, answers::first_refusal(earlier_refusal, no_segment))
-}
-
-// The record that the segment of a row is taken from: this one if it is new there, else the earlier one.
-fn choose_record<'a>(edition: u64, this: &'a [u8], earlier: &'a [u8], row: u8) -> &'a [u8]
-    ensures { result.now ≡ chosen_record edition this.now earlier.now row }
-{
-    if is_new(edition, this, row) {
-        return this;
-    }
-    earlier
-}
-
-// The bytes of `count` words from word `first` on, of the record that the segment of a row is taken from; none beside a refusal.
-pub fn chosen_bytes<'a>(
+// The row of the segment that is asked for by its number among those of all rows, and the record that it is taken from: this one
+// if it is new there, else the earlier one. Or the refusal: that of this record, then of the earlier one, then 26, 20 and 23.
+#[tactic(auto, using(crate::proofs::Search::place), unfolding(crate::specs::Monitor::chosen_record))]
+pub fn choose<'a>(
     edition: u64,
     this: &'a [u8],
     earlier: &'a [u8],
-    row: u8,
-    first: u8,
-    count: u8,
-) -> &'a [u8]
-    ensures { result.now ≡ (row_answer edition this.now earlier.now row first count).value }
+    numbers: [u64; SEGMENT_COUNT],
+    number: u64,
+) -> Result<(usize, &'a [u8]), Refusal>
+    ensures { answer_by choice_of (0, []) result ≡ choice edition this.now earlier.now (place_in numbers number) }
 {
-    if refusal_of(edition, this, earlier, row) != 0 {
-        return &this[0..0];
+    record::judge(edition, this)?;
+    record::judge(edition, earlier)?;
+    if editions::no_segments(edition) {
+        return Err(Refusal::NoSegments);
     }
-    let chosen = choose_record(edition, this, earlier, row);
-    monitor_bytes(edition, chosen, first, count)
+    let row = row_of(numbers, number).ok_or(Refusal::NoSuchSegment)?;
+    if is_new(edition, this, row) {
+        return Ok((row, this));
+    }
+    if is_new(edition, earlier, row) {
+        return Ok((row, earlier));
+    }
+    Err(Refusal::SegmentNotNew)
 }

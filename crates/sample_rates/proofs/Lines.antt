@@ -1,32 +1,14 @@
--- A table of rates, one line after the other, and the facts about rates, proved once over a table by one computed test. Assumes
--- nothing.
-use Prim.Native.Nat.{ℕ, ◌+◌, ◌*◌, ◌%◌, ◌≤◌, ◌<◌}
-use mathlib.Core.Path.{◌≡◌, refl, ap, sym, ◌∙◌}
+-- The facts about rates, proved once over a table by one computed test. Assumes nothing.
+use Prim.Native.Nat.{ℕ, ◌+◌, ◌*◌, ◌%◌, ◌≤◌}
+use mathlib.Core.Path.{◌≡◌, refl}
 use mathlib.Core.Bool.{Bool, true, false, cond}
 use mathlib.Core.List.{List, [], ◌∷◌}
 use mathlib.Core.Logic.{◌⊎◌, inl, inr}
-use native.Mathlib.Numerals.{add-one}
 use lib.Dec.{T, eqb, eqb→eq, leb→le}
-use lib.ListN.{length, get_or, drop}
-use lib.Seq.{drop-cons}
-use borrow.Author.Tests.{ne_eqb, eqb-true}
+use borrow.Author.Tests.{eqb-true}
 use Rattle.lists.proofs.Truth.{left, right, each}
 use Rattle.sample_rates.specs.declared.SampleRate.{SampleRate}
 use Rattle.sample_rates.specs.Rates.{rates1985, rates1992, no_rate, line_in, rate_hz, records_per_second, samples_per_record, last_sample_word, words_a, words_b, most_samples, second_us, Layout, layout1985, layout1992, line_tests, sound_line, sound_lines}
-
--- where a line does not have the rate, the rest of the table is looked at
-module _ (ls : List SampleRate) (hz k : ℕ) (h : k < length ls) where
-  rest : drop k ls ≡ get_or ls k no_rate ∷ drop (k + 1) ls
-  rest = drop-cons ls k no_rate h ∙ ap (λ (n : ℕ). get_or ls k no_rate ∷ drop n ls) (sym (add-one k))
-
-  step : line_in (drop k ls) hz ≡ cond (eqb (get_or ls k no_rate).hz hz) (get_or ls k no_rate) (line_in (drop (k + 1) ls) hz)
-  unfolding line_in
-  step = ap (λ (l : List SampleRate). line_in l hz) rest
-
-  pub passed : ((get_or ls k no_rate).hz ≡ hz → ⊥) → line_in (drop (k + 1) ls) hz ≡ line_in (drop k ls) hz
-  passed e = sym (step ∙ ap (λ (t : Bool). cond t (get_or ls k no_rate) (line_in (drop (k + 1) ls) hz)) (ne_eqb _ _ e))
-
--- ## the facts of a line
 
 -- what the test gives
 pub record SoundLine (layout : Layout) (hz : ℕ) (l : SampleRate) : Type 0 where

@@ -1,7 +1,7 @@
 // The sample rates of each edition, and what follows from a rate. FORMAT, "Rates".
 #![tactic(auto)]
 
-ghost use Rattle.std.specs.Prelude.{◌≡◌, ◌≤◌, drop};
+ghost use Rattle.std.specs.Prelude.{◌≡◌, ◌≤◌};
 ghost use Rattle.sample_rates.specs.Rates.{second_us, line, no_rate, line1992, rates1985, rates1992, line_in, interval_us};
 
 // The microseconds of a second.
@@ -39,40 +39,30 @@ fn line(
     }
 }
 
-// The line of no rate.
+// The line of no rate, in place of an Option: of bytes that name no rate record's `rate_of` and `sample_count`, times'
+// `first_sample_time` and the index promise what follows from zeros (`line_in`), so each would make this line again.
 pub fn no_rate() -> SampleRate
     ensures { result ≡ no_rate }
 {
     line(0, 0, 0, 0, 0, 0)
 }
 
-// The line of a rate of 1985, or a line of zeros where no line has it. Each line is a branch: a search through an array of
+// The line of a rate of 1985, or a line of zeros where no line has it. Each line is an arm: a search through an array of
 // lines would first write the whole array to memory, at each call.
+#[tactic(auto, unfolding(crate::specs::Rates::line_in))]
 pub fn rate_1985(hz: u64) -> SampleRate
     ensures { result ≡ line_in rates1985 hz }
 {
-    if hz == 50_000 {
-        return line(50_000, 50, 1000, 2040, 2195, 2190);
+    match hz {
+        50_000 => line(50_000, 50, 1000, 2040, 2195, 2190),
+        20_000 => line(20_000, 20, 1000, 2040, 2195, 2190),
+        10_000 => line(10_000, 10, 1000, 2040, 2195, 2190),
+        5_000 => line(5_000, 5, 1000, 2040, 2195, 2190),
+        2_000 => line(2_000, 2, 1000, 2040, 2195, 2190),
+        1_000 => line(1_000, 2, 500, 1040, 1195, 1190),
+        200 => line(200, 2, 100, 240, 395, 390),
+        _ => no_rate(),
     }
-    if hz == 20_000 {
-        return line(20_000, 20, 1000, 2040, 2195, 2190);
-    }
-    if hz == 10_000 {
-        return line(10_000, 10, 1000, 2040, 2195, 2190);
-    }
-    if hz == 5_000 {
-        return line(5_000, 5, 1000, 2040, 2195, 2190);
-    }
-    if hz == 2_000 {
-        return line(2_000, 2, 1000, 2040, 2195, 2190);
-    }
-    if hz == 1_000 {
-        return line(1_000, 2, 500, 1040, 1195, 1190);
-    }
-    if hz == 200 {
-        return line(200, 2, 100, 240, 395, 390);
-    }
-    no_rate()
 }
 
 // A line of 1992: nothing follows the samples, so a record's one length is the last word of samples too.
@@ -82,75 +72,33 @@ fn line_1992(hz: u64, samples: u64, records: u64, words: u64) -> SampleRate
     line(hz, records, samples, words, words, words)
 }
 
-// The line of a rate of 1992, where that is after the tenth line of its table.
-fn slow_rate_1992(hz: u64) -> SampleRate
-    ensures { result ≡ line_in (drop 10 rates1992) hz }
-{
-    if hz == 3_125 {
-        return line_1992(3_125, 625, 5, 1333);
-    }
-    if hz == 2_500 {
-        return line_1992(2_500, 625, 4, 1333);
-    }
-    if hz == 2_000 {
-        return line_1992(2_000, 1000, 2, 2083);
-    }
-    if hz == 1_250 {
-        return line_1992(1_250, 625, 2, 1333);
-    }
-    if hz == 1_000 {
-        return line_1992(1_000, 500, 2, 1083);
-    }
-    if hz == 500 {
-        return line_1992(500, 250, 2, 583);
-    }
-    if hz == 400 {
-        return line_1992(400, 200, 2, 483);
-    }
-    if hz == 250 {
-        return line_1992(250, 125, 2, 333);
-    }
-    if hz == 200 {
-        return line_1992(200, 100, 2, 283);
-    }
-    no_rate()
-}
-
 // The line of a rate of 1992, or a line of zeros where no line has it.
+#[tactic(auto, unfolding(crate::specs::Rates::line_in))]
 pub fn rate_1992(hz: u64) -> SampleRate
     ensures { result ≡ line_in rates1992 hz }
 {
-    if hz == 50_000 {
-        return line_1992(50_000, 1000, 50, 2083);
+    match hz {
+        50_000 => line_1992(50_000, 1000, 50, 2083),
+        31_250 => line_1992(31_250, 625, 50, 1333),
+        25_000 => line_1992(25_000, 1000, 25, 2083),
+        20_000 => line_1992(20_000, 1000, 20, 2083),
+        15_625 => line_1992(15_625, 625, 25, 1333),
+        12_500 => line_1992(12_500, 625, 20, 1333),
+        10_000 => line_1992(10_000, 1000, 10, 2083),
+        6_250 => line_1992(6_250, 625, 10, 1333),
+        5_000 => line_1992(5_000, 1000, 5, 2083),
+        4_000 => line_1992(4_000, 1000, 4, 2083),
+        3_125 => line_1992(3_125, 625, 5, 1333),
+        2_500 => line_1992(2_500, 625, 4, 1333),
+        2_000 => line_1992(2_000, 1000, 2, 2083),
+        1_250 => line_1992(1_250, 625, 2, 1333),
+        1_000 => line_1992(1_000, 500, 2, 1083),
+        500 => line_1992(500, 250, 2, 583),
+        400 => line_1992(400, 200, 2, 483),
+        250 => line_1992(250, 125, 2, 333),
+        200 => line_1992(200, 100, 2, 283),
+        _ => no_rate(),
     }
-    if hz == 31_250 {
-        return line_1992(31_250, 625, 50, 1333);
-    }
-    if hz == 25_000 {
-        return line_1992(25_000, 1000, 25, 2083);
-    }
-    if hz == 20_000 {
-        return line_1992(20_000, 1000, 20, 2083);
-    }
-    if hz == 15_625 {
-        return line_1992(15_625, 625, 25, 1333);
-    }
-    if hz == 12_500 {
-        return line_1992(12_500, 625, 20, 1333);
-    }
-    if hz == 10_000 {
-        return line_1992(10_000, 1000, 10, 2083);
-    }
-    if hz == 6_250 {
-        return line_1992(6_250, 625, 10, 1333);
-    }
-    if hz == 5_000 {
-        return line_1992(5_000, 1000, 5, 2083);
-    }
-    if hz == 4_000 {
-        return line_1992(4_000, 1000, 4, 2083);
-    }
-    slow_rate_1992(hz)
 }
 
 // The microseconds from a sample to the next; 0 for the line of no rate.

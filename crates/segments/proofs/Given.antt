@@ -1,5 +1,5 @@
--- `segment` bears no number; `segment_refusal`, asked the same, does. The two are one answer: there are bytes exactly where
--- nothing is refused, and never more than the longest segment has. Assumes nothing.
+-- The answer of the segment question: there are bytes exactly where nothing is refused, and never more than the longest segment
+-- has. Assumes nothing.
 use Prim.Native.Nat.{ℕ, ◌*◌, ◌≤◌, ◌<◌}
 use mathlib.Core.Path.{◌≡◌, refl}
 use mathlib.Core.Bool.{Bool, true, false, cond}
@@ -39,6 +39,15 @@ module _ (n : ℕ) (this earlier : List ℕ) (number : ℕ) where
 
   abbrev by : Bool → Answer (List ℕ)
   by t = cond t (accepted (segment_bytes n chosen (segment_at row))) (refused [] refusal)
+
+  -- its number is the refusal of the row
+  pub refusal-number : refusal ≡ (segment_answer n this earlier number).number
+  unfolding segment_answer
+  refusal-number = by-test (eqb refusal 0) refl
+    where
+      by-test : (t : Bool) → eqb refusal 0 ≡ t → refusal ≡ (by t).number
+      by-test true a = eqb-true refusal 0 a
+      by-test false a = refl
 
   -- no refusal: there are bytes
   pub some-given : (segment_answer n this earlier number).number ≡ 0 → 0 < length (segment_answer n this earlier number).value

@@ -14,7 +14,7 @@ use Rattle.record.specs.Record.{record_refusal}
 use Rattle.monitor.specs.Monitor.{segment_count, place_in, is_new, is_no_row}
 use Rattle.segments.specs.Segments.{segment_numbers}
 use Rattle.segments.specs.Question.{segment_row, segment_answer}
-use Rattle.segments.proofs.Answers.{refusal-number}
+use Rattle.segments.proofs.Given.{refusal-number}
 
 abbrev pub NoneOf : List ℕ → ℕ → Type 0
 NoneOf [] number = Unit
@@ -48,7 +48,7 @@ module _ (this earlier : List ℕ) (number : ℕ) (p : record_refusal 1985 this 
   answer : (segment_answer 1985 this earlier number).number ≡ by (is_no_row row) neither
   unfolding edition_of
   answer =
-      sym (refusal-number 1985 this earlier number row refl)
+      sym (refusal-number 1985 this earlier number)
       ∙ (λ i. p i then (q i then first (26 when no_segments 1985 ∷ 20 when is_no_row row ∷ 23 when neither ∷ [])))
 
   is-20 : (none old : Bool) → by none old ≡ 20 → none ≡ true

@@ -2,12 +2,15 @@
 // the question reads. FORMAT, "Monitor segments", "Refusal numbers".
 #![tactic(auto)]
 
-ghost use Rattle.std.specs.Prelude.{◌≡◌};
+ghost use Rattle.std.specs.Prelude.{◌≡◌, []};
+ghost use Rattle.answers.specs.Refused.{answer_by};
 ghost use Rattle.segments.specs.Question.{segment_answer};
 
+use answers::Refusal;
 use monitor::SEGMENT_COUNT;
 
 // A row of the list: a segment's number, its first word, counted from 1 after the samples, and how many words it has.
+// A tuple, since the list is to be compared with the figure line by line: a row with named fields takes five lines.
 #[derive(Clone, Copy)]
 pub struct Row(pub u64, pub u8, pub u8);
 
@@ -23,35 +26,21 @@ const SEGMENTS: [Row; SEGMENT_COUNT] = [
     Row(8, 129, 20), // SIGNAL LEVEL SEGMENT - SLE #2
 ];
 
-// Its numbers, which a segment is asked for by.
-const NUMBERS: [u64; SEGMENT_COUNT] = [
-    SEGMENTS[0].0,
-    SEGMENTS[1].0,
-    SEGMENTS[2].0,
-    SEGMENTS[3].0,
-    SEGMENTS[4].0,
-    SEGMENTS[5].0,
-    SEGMENTS[6].0,
-];
-
 // The words of the longest segment, which is the first.
 pub const MOST_WORDS: usize = SEGMENTS[0].2 as usize;
 
-// The bytes of a segment; none beside a refusal, whose number `segment_refusal` gives.
-pub fn segment<'a>(edition: u64, this: &'a [u8], earlier: &'a [u8], number: u64) -> &'a [u8]
-    ensures { result.now ≡ (segment_answer edition this.now earlier.now number).value }
+// The bytes of a segment, or the refusal: 25 or 1 to 11 of this record, then of the earlier one, 26, 20 or 23.
+#[tactic(auto, unfolding(crate::specs::Question::segment_answer, crate::specs::Question::segment_row))]
+pub fn segment<'a>(
+    edition: u64,
+    this: &'a [u8],
+    earlier: &'a [u8],
+    number: u64,
+) -> Result<&'a [u8], Refusal>
+    ensures { answer_by (λ s. s.now) [] result ≡ segment_answer edition this.now earlier.now number }
 {
-    let row = monitor::row_of(NUMBERS, number);
-    if row as usize == SEGMENT_COUNT {
-        return &this[0..0];
-    }
-    let Row(_, first, words) = SEGMENTS[row as usize];
-    monitor::chosen_bytes(edition, this, earlier, row, first, words)
-}
-
-// The refusal of the same question: 25, 1 to 11, 26, 20 or 23, or 0 where `segment` gives the bytes.
-pub fn segment_refusal(edition: u64, this: &[u8], earlier: &[u8], number: u64) -> u8
-    ensures { result ≡ (segment_answer edition this.now earlier.now number).number }
-{
-    monitor::refusal_of(edition, this, earlier, monitor::row_of(NUMBERS, number))
+    let numbers = SEGMENTS.map(|row| row.0);
+    let (row, record) = monitor::choose(edition, this, earlier, numbers, number)?;
+    let Row(_, first, words) = SEGMENTS[row];
+    Ok(monitor::monitor_bytes(edition, record, first, words))
 }

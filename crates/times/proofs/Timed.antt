@@ -2,30 +2,27 @@
 -- divide a second evenly. Assumes nothing.
 use Prim.Native.Nat.{ℕ, suc, ◌+◌, ◌*◌, ◌-◌, ◌/◌, ◌^◌, ◌≤◌, ◌<◌}
 use mathlib.Core.Path.{◌≡◌, refl, sym, ap, subst, ◌∙◌}
-use mathlib.Core.Bool.{Bool, true, false, cond, not}
-use mathlib.Core.List.{List, [], ◌∷◌}
+use mathlib.Core.Bool.{Bool, true, false, cond}
+use mathlib.Core.List.{List}
 use mathlib.Core.Logic.{⊎_elim}
 use native.Mathlib.Nat.{div-le_self}
 use native.Mathlib.Omega.{arith}
 use lib.Dec.{eqb, ltb, lit≤}
 use lib.IntN.{ℤ, pos, negsuc, neg_ℤ, ◌+ℤ◌, ◌*ℤ◌, *ℤ-zero}
 use lib.Signed.{mag}
-use borrow.Author.Tests.{eqb-true, eqb-false, ltb-true, lt-ltb, le-ltb, eq-eqb, ne_eqb}
+use borrow.Author.Tests.{eqb-true, eqb-false, lt-ltb, le-ltb, eq-eqb, ne_eqb}
 use Rattle.lists.proofs.Order.{le-or-lt}
 use Rattle.lists.proofs.Range.{Between, moved_up, negated-between, between-mag}
-use Rattle.answers.specs.Refusal.{◌when◌, first}
-use Rattle.answers.proofs.Refusals.{then-zero}
 use Rattle.fields.specs.Field.{value_of}
+use Rattle.fields.proofs.OneField.{value-lt}
 use Rattle.header.specs.Rows.{time_tag}
 use Rattle.header.specs.Edition.{layout_of, sample_rate}
 use Rattle.sample_rates.specs.declared.SampleRate.{SampleRate}
 use Rattle.sample_rates.specs.Rates.{rate_hz, interval_us, most_samples, second_us}
 use Rattle.sample_rates.proofs.Lines.{SoundLine}
 use Rattle.editions.proofs.Lines.{rate-line}
-use Rattle.record.specs.Record.{record_refusal}
-use Rattle.record.specs.Stretch.{record_rate, sample_count}
-use Rattle.record.proofs.Count.{count_small}
-use Rattle.times.specs.SampleTime.{ms_us, tagged_sample, intervals, rounded_down, from_tag, time_of, sample_time, time_refusal}
+use Rattle.record.specs.Stretch.{record_rate}
+use Rattle.times.specs.SampleTime.{ms_us, tagged_sample, intervals, rounded_down, from_tag, time_of, sample_time}
 use Rattle.times.proofs.Rounding.{not-rounded-by}
 
 -- ## by the tag
@@ -55,6 +52,10 @@ module _ (hz k : ℕ) (some : hz ≡ 0 → ⊥) where
 
 -- ## small
 
+-- the tag of any bytes
+pub tag-small : (b : List ℕ) → value_of time_tag b < 2 ^ 27
+tag-small b = value-lt time_tag b refl refl
+
 -- at most two seconds below zero; above it at most so many microseconds and a second for each sample of a record
 abbrev pub Near : ℕ → ℤ → Type 0
 Near us z = Between (tagged_sample * second_us) (us + most_samples * second_us) z
@@ -81,17 +82,6 @@ pub time-fits : (tag hz k : ℕ) → tag < 2 ^ 27 → k < most_samples → mag (
 time-fits tag hz k p q =
     between-mag (tagged_sample * second_us) (ms_us * tag + most_samples * second_us) (2 ^ 63) (time_of tag hz k) (lit≤ tt) (omega arith)
     (time-near tag hz k q)
-
-is-there : (t : Bool) → first (12 when not t ∷ []) ≡ 0 → t ≡ true
-is-there true e = refl
-is-there false e = absurd (let z : ⊥ = omega (arith, e) in z)
-
--- where a call's refusal is 0 the sample is one of the record's
-pub is-sample : (n : ℕ) (b : List ℕ) (k : ℕ) {r : ℕ} → r ≡ time_refusal n b k → r ≡ 0 → k < most_samples
-unfolding time_refusal
-is-sample n b k e z =
-    let p = then-zero (record_refusal n b) _ (sym e ∙ z) in
-    omega (arith, ltb-true k (sample_count n b) (is-there (ltb k (sample_count n b)) p.1), count_small n b)
 
 -- ## not rounded
 

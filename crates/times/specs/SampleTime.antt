@@ -1,15 +1,13 @@
 -- When a sample was taken, in microseconds from 0 h of the record's day; a time below zero is on the day before. FORMAT, "Times
 -- and phases".
 use Rattle.std.specs.Prelude.{ℕ, ◌*◌, ◌/◌, cond, not, List, [], ◌∷◌, eqb, ltb, ℤ, pos, negsuc, ◌+ℤ◌, ◌-ℤ◌, ◌*ℤ◌}
-use Rattle.answers.specs.Answer.{Answer, accepted, refused, unless}
+use Rattle.answers.specs.Answer.{Answer, unless}
 use Rattle.answers.specs.Refusal.{◌when◌, first, ◌then◌}
 use Rattle.fields.specs.Field.{value_of}
 use Rattle.header.specs.Rows.{time_tag}
 use Rattle.sample_rates.specs.Rates.{rate_hz, second_us}
 use Rattle.record.specs.Record.{record_refusal}
 use Rattle.record.specs.Stretch.{record_rate, sample_count}
-use Rattle.times.specs.declared.TimeAnswer.{TimeAnswer}
-use Rattle.times.specs.declared.TimeAnswer.TheVariants.{Microseconds, Refused}
 
 -- the microseconds of a millisecond
 abbrev pub ms_us : ℕ
@@ -47,8 +45,3 @@ time_refusal n b k = record_refusal n b then first (12 when not (ltb k (sample_c
 -- the time of sample k of the record b, or the refusal
 unfoldable pub time_answer : ℕ → List ℕ → ℕ → Answer ℤ
 time_answer n b k = unless (time_refusal n b k) (pos 0) (sample_time n b k)
-
--- the number and the value for each case of the code's answer
-abbrev pub shown_time : TimeAnswer → Answer ℤ
-shown_time (Microseconds t) = accepted t
-shown_time (Refused r) = refused (pos 0) r

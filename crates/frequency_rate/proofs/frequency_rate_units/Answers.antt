@@ -1,43 +1,40 @@
+use Prim.Native.Nat.{ℕ, ◌*◌, ◌^◌, ◌<◌}
 use mathlib.Core.Path.{◌∙◌}
 use native.Mathlib.Omega.{arith}
-use Prim.Native.Nat.{◌*◌}
 use mir.Syntax.{w64}
 use mir.ValLaws.{to_z_pos}
 use Rattle.signed.proofs.Negated.{negated_fits, negated}
-use Rattle.frequency_rate.proofs.Signs.{size-bound, units-positive, units-negative}
-use borrow.Author.Rules.{rules}
+use Rattle.frequency_rate.proofs.Signs.{ten-bound, size-bound, units-positive, units-negative}
 use Rattle.frequency_rate.proofs.frequency_rate_units.Goals as goal
+use Rattle.frequency_rate.proofs.frequency_rate_units.Goals.{After-pow}
 
-pub ten_to-requires : goal.ten_to-requires
-ten_to-requires c = search rules
+module _ (c : After-pow) where
+  abbrev size : ℕ
+  size = c.args.digits * c.pow.result
+
+  small : size < 2 ^ 63
+  small = size-bound c.args.digits c.args.power c.args.sign c.pow.result c.pow.ensures c.requires.0 c.requires.1
+
+pub pow-requires : goal.pow-requires
+pow-requires c = omega (arith, ten-bound c.args.power c.requires.1)
 
 pub overflow_mul-size : goal.overflow_mul-size
-overflow_mul-size c = let a = c.args in omega (
-  arith,
-  size-bound a.digits c.ten_to.result (search rules) (search rules),
-)
+overflow_mul-size c = omega (arith, small (goal.at.overflow_mul-size c).After-pow)
 
 pub overflow_cast-size : goal.overflow_cast-size
-overflow_cast-size c = let a = c.args in record {
-  sfits = omega (
-    arith,
-    size-bound a.digits c.ten_to.result (search rules) (search rules),
-  );
-}
+overflow_cast-size c = record { sfits = small (goal.at.overflow_cast-size c).After-pow }
 
 pub returns-then-sign-eq1 : goal.returns-then-sign-eq1
 returns-then-sign-eq1 c =
-    let a = c.args in
-    to_z_pos w64 (a.digits * c.ten_to.result) (size-bound a.digits c.ten_to.result (search rules) (search rules))
-    ∙ units-positive a.digits a.power a.sign c.ten_to.result c.ten_to.ensures.0 c.if-sign-eq1.true
+    let at = (goal.at.returns-then-sign-eq1 c).After-pow in
+    to_z_pos w64 (size at) (small at)
+    ∙ units-positive c.args.digits c.args.power c.args.sign c.pow.result c.pow.ensures c.if-sign-eq1.true
 
 pub overflow_sub-result : goal.overflow_sub-result
-overflow_sub-result c =
-    let a = c.args in
-    negated_fits (a.digits * c.ten_to.result) (size-bound a.digits c.ten_to.result (search rules) (search rules))
+overflow_sub-result c = let at = (goal.at.overflow_sub-result c).After-pow in negated_fits (size at) (small at)
 
 pub returns : goal.returns
 returns c =
-    let a = c.args in
-    negated (a.digits * c.ten_to.result) (size-bound a.digits c.ten_to.result (search rules) (search rules))
-    ∙ units-negative a.digits a.power a.sign c.ten_to.result c.ten_to.ensures.0 c.if-sign-eq1.false
+    let at = (goal.at.returns c).After-pow in
+    negated (size at) (small at)
+    ∙ units-negative c.args.digits c.args.power c.args.sign c.pow.result c.pow.ensures c.if-sign-eq1.false
