@@ -1,9 +1,16 @@
 -- A block as a part of the bytes. Assumes nothing.
-use Prim.Native.Nat.{ℕ, ◌+◌, ◌-◌, ◌*◌, ◌<◌}
-use mathlib.Core.Path.{◌≡◌, ap, ◌∙◌}
+use mathlib.Core.Bool.{Bool, ◌&&◌, true, false, true≢false}
+use Rattle.lists.specs.Tests.{all_to}
+use Rattle.lists.proofs.Tests.{each_to}
+use Rattle.lists.proofs.Truth.{held, holds}
+use Prim.Native.Nat.{ℕ, zero, suc, ◌+◌, ◌-◌, ◌*◌, ◌<◌, ◌≤◌}
+use native.Mathlib.Numerals.{add-one}
+use Rattle.std.specs.List.{list_all}
+use Rattle.std.proofs.lemmas.List.Folds.{list_all_more}
+use mathlib.Core.Path.{◌≡◌, refl, sym, ap, ◌∙◌}
 use mathlib.Core.List.{List}
 use native.Mathlib.Omega.{arith}
-use lib.ListN.{length, take, drop}
+use lib.ListN.{length, take, drop, get_or}
 use borrow.Rule.Slice.PartMut.{mid_len}
 use Rattle.block_check.specs.Check.{block_bytes}
 use Rattle.block_layout.specs.Carried.{block_at, whole_blocks}
@@ -16,3 +23,51 @@ module _ (s : List ℕ) (i : ℕ) where
 
   pub block-length : i < whole_blocks s → length (take (block_bytes * i + block_bytes - block_bytes * i) (drop (block_bytes * i) s)) ≡ block_bytes
   block-length h = mid_len (block_bytes * i) (block_bytes * i + block_bytes) s (omega arith) ∙ (let e : block_bytes * i + block_bytes - block_bytes * i ≡ block_bytes = omega arith in e)
+
+-- where one of the first n tests fails, not all hold
+pub one-fails : (test : ℕ → Bool) (n k : ℕ) → k < n → test k ≡ false → all_to test n ≡ false
+one-fails test n k h e = by-test (all_to test n) refl
+  where
+    by-test : (t : Bool) → all_to test n ≡ t → t ≡ false
+    by-test true all = absurd (true≢false (sym (holds (test k) (each_to test n k h (held (all_to test n) all))) ∙ e))
+    by-test false all = refl
+
+-- a test of each of the first entries of a list, by their places
+pub listed : (test : ℕ → Bool) (l : List ℕ) (n : ℕ) → n ≤ length l → list_all test (take n l) ≡ all_to (λ k. test (get_or l k 0)) n
+unfolding all_to
+listed test l zero h = refl
+listed test l (suc n) h =
+    ap (λ (m : ℕ). list_all test (take m l)) (sym (add-one n)) ∙ list_all_more test l n 0 (omega arith)
+    ∙ ap (λ (t : Bool). t && test (get_or l n 0)) (listed test l n (omega arith))
+
+-- ## the blocks as a list
+
+abbrev pub blocks_of : List ℕ → List (List ℕ)
+blocks_of s = tab (block_at s) 0 (whole_blocks s)
+
+-- what a rule gives from the second place on
+tab-rest : (f g : ℕ → List ℕ) (k n : ℕ) → ((i : ℕ) → f (suc i) ≡ g i) → tab f (suc k) n ≡ tab g k n
+tab-rest f g k zero e = refl
+tab-rest f g k (suc n) e = λ t. e k t ∷ tab-rest f g (suc k) n e t
+
+-- bytes shorter than a block have none, and a block in front is the first of them
+none-whole : (s : List ℕ) → length s < block_bytes → length (blocks_of s) ≡ 0
+none-whole s h = length-tab (block_at s) 0 (whole_blocks s) ∙ omega arith
+
+one-more : (b s : List ℕ) → length b ≡ block_bytes → blocks_of (b ++ s) ≡ b ∷ blocks_of s
+unfolding block_at
+one-more b s e =
+    ap (tab (block_at (b ++ s)) 0) (let n : whole_blocks (b ++ s) ≡ suc (whole_blocks s) = omega (arith, length-append b s, e) in n)
+    ∙ (λ t. take_at b s block_bytes e t ∷ tab-rest (block_at (b ++ s)) (block_at s) 0 (whole_blocks s) next t)
+  where
+    next : (i : ℕ) → block_at (b ++ s) (suc i) ≡ block_at s i
+    next i = ?
+
+-- so `chunks_exact` yields them
+pub blocks-listed : (c : ChunksExact ℕ) (s : List ℕ) → chunks_exact_rest c ≡ s → chunks_exact_size c ≡ block_bytes
+    → YieldsList chunks_exact_steps (λ x. x.now) c (blocks_of s)
+blocks-listed c s rest size = ?
+
+-- and the first of them that fails is the first bad block
+pub first-listed : (s : List ℕ) → position_or_len (λ b. not (passes b)) (blocks_of s) ≡ first_bad s
+first-listed s = ?
