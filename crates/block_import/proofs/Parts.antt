@@ -1,19 +1,27 @@
 -- A block as a part of the bytes. Assumes nothing.
-use mathlib.Core.Bool.{Bool, ◌&&◌, true, false, true≢false}
-use Rattle.lists.specs.Tests.{all_to}
+use mathlib.Core.Bool.{Bool, not, cond, ◌&&◌, true, false, true≢false}
+use Rattle.lists.specs.Fill.{tab}
+use Rattle.lists.specs.Tests.{all_to, first_not}
+use Rattle.lists.proofs.Fill.{length-tab}
 use Rattle.lists.proofs.Tests.{each_to}
 use Rattle.lists.proofs.Truth.{held, holds}
 use Prim.Native.Nat.{ℕ, zero, suc, ◌+◌, ◌-◌, ◌*◌, ◌<◌, ◌≤◌}
 use native.Mathlib.Numerals.{add-one}
-use Rattle.std.specs.List.{list_all}
+use Rattle.std.specs.List.{list_all, prefix_len, position_or_len}
+use Rattle.std.specs.Slice.Iter.{chunks_exact_rest, chunks_exact_size, chunks_exact_steps}
+use Rattle.std.proofs.lemmas.Iterator.{YieldsList}
+use Rattle.std.proofs.lemmas.Iterator.Splits.{YieldsList-from_shown_while}
 use Rattle.std.proofs.lemmas.List.Folds.{list_all_more}
-use mathlib.Core.Path.{◌≡◌, refl, sym, ap, ◌∙◌}
-use mathlib.Core.List.{List}
+use mathlib.Core.Path.{◌≡◌, refl, sym, ap, ◌∙◌, subst}
+use native.Mathlib.Nat.{add-zero, add-suc, suc-add, zero-add}
+use mathlib.Core.List.{List, ◌∷◌, ◌++◌}
 use native.Mathlib.Omega.{arith}
-use lib.ListN.{length, take, drop, get_or}
+use lib.ListN.{length, take, drop, get_or, length-append}
+use lib.Seq.{take_at, drop_at, drop-drop}
 use borrow.Rule.Slice.PartMut.{mid_len}
-use Rattle.block_check.specs.Check.{block_bytes}
+use Rattle.block_check.specs.Check.{block_bytes, passes}
 use Rattle.block_layout.specs.Carried.{block_at, whole_blocks}
+use Rattle.block_layout.specs.Refusals.{first_bad}
 
 -- from its start to its end, as the code cuts it
 module _ (s : List ℕ) (i : ℕ) where
@@ -61,13 +69,33 @@ one-more b s e =
     ∙ (λ t. take_at b s block_bytes e t ∷ tab-rest (block_at (b ++ s)) (block_at s) 0 (whole_blocks s) next t)
   where
     next : (i : ℕ) → block_at (b ++ s) (suc i) ≡ block_at s i
-    next i = ?
+    next i =
+        ap (λ (k : ℕ). take block_bytes (drop k (b ++ s))) (let k : block_bytes * suc i ≡ block_bytes + block_bytes * i = omega arith in k)
+        ∙ ap (take block_bytes) (sym (drop-drop (block_bytes * i) block_bytes (b ++ s)) ∙ ap (drop (block_bytes * i)) (drop_at b s block_bytes e))
 
 -- so `chunks_exact` yields them
-pub blocks-listed : (c : ChunksExact ℕ) (s : List ℕ) → chunks_exact_rest c ≡ s → chunks_exact_size c ≡ block_bytes
-    → YieldsList chunks_exact_steps (λ x. x.now) c (blocks_of s)
-blocks-listed c s rest size = ?
+pub blocks-listed : {c : _} (s : List ℕ) → chunks_exact_rest c ≡ s → chunks_exact_size c ≡ block_bytes
+    → YieldsList (chunks_exact_steps {A = ℕ}) (λ x. x.now) c (blocks_of s)
+blocks-listed {c} s rest size = 
+    subst (λ (l : List ℕ). YieldsList (chunks_exact_steps {A = ℕ}) (λ x. x.now) c (blocks_of l)) rest
+    (YieldsList-from_shown_while (chunks_exact_steps {A = ℕ}) (λ x. x.now) (λ t. blocks_of (chunks_exact_rest t)) (λ t. chunks_exact_size t ≡ block_bytes)
+    (λ t u k h. none-whole (chunks_exact_rest t) (omega (arith, h.1.0, k)))
+    (λ t x u k h. (h.0 ∙ k, ap blocks_of h.1.0 ∙ one-more x.now (chunks_exact_rest u) (h.1.1 ∙ k)))
+    c size)
 
 -- and the first of them that fails is the first bad block
+not-not : (t : Bool) → not (not t) ≡ t
+not-not true = refl
+not-not false = refl
+
+first-in : (f : ℕ → List ℕ) (k n : ℕ) → position_or_len (λ b. not (passes b)) (tab f k n) ≡ first_not (λ i. passes (f (k + i))) n
+unfolding first_not
+first-in f k zero = refl
+first-in f k (suc n) =
+    let so_far = first-in f (suc k) n ∙ (λ t. first_not (λ i. passes (f ((suc-add k i ∙ sym (add-suc k i)) t))) n) in
+    let more : 1 + position_or_len (λ b. not (passes b)) (tab f (suc k) n) ≡ suc (first_not (λ i. passes (f (k + suc i))) n) = omega (arith, so_far) in
+    λ t. cond ((not-not (passes (f k)) ∙ ap (λ (i : ℕ). passes (f i)) (sym (add-zero k))) t) (more t) 0
+
 pub first-listed : (s : List ℕ) → position_or_len (λ b. not (passes b)) (blocks_of s) ≡ first_bad s
-first-listed s = ?
+unfolding first_bad
+first-listed s = first-in (block_at s) 0 (whole_blocks s) ∙ (λ t. first_not (λ i. passes (block_at s (zero-add i t))) (whole_blocks s))
