@@ -1,66 +1,45 @@
 -- The parts of a block, stored in turn. Assumes nothing.
-use Prim.Native.Nat.{ℕ, ◌+◌, ◌-◌, ◌≤◌, ◌<◌}
+use Prim.Native.Nat.{ℕ, ◌+◌, ◌-◌, ◌≤◌, ◌<◌, min}
 use mathlib.Core.Path.{◌≡◌, refl, ap, sym, ◌∙◌}
 use mathlib.Core.List.{List, [], ◌∷◌, ◌++◌, append-nil}
 use mathlib.Core.Logic.{⊎_elim}
 use native.Mathlib.Omega.{arith}
-use lib.ListN.{length, get_or, set, take, drop, length-append, length-take, length-drop, drop_of_length-le, get_or-append}
-use lib.Seq.{take_at, drop_at, get_or-append-add}
+use lib.ListN.{length, get_or, take, drop, replicate, length-append, length-take, length-drop, length-replicate, drop_of_length-le, get_or-append, get_or-replicate, get_or-eq_default}
+use lib.Seq.{take_at, drop_at, get_or-append-add, get_or-take}
 use borrow.Rule.Slice.PartMut.{put_mid, post_of}
 use Rattle.lists.specs.Fill.{tab}
 use Rattle.lists.proofs.Order.{le-or-lt}
+use Rattle.lists.proofs.Parts.{part-after}
 use Rattle.lists.proofs.Fill.{length-tab, get_or-tab}
 use Rattle.block_check.specs.Check.{block_bytes, payload_bytes, covered, check_of}
 use Rattle.block_layout.specs.Layout.{word_bytes, payload_by, body_of, layout}
 use Rattle.block_layout.proofs.Block.{payload-ext, length-body, check-front}
 
--- a pair, both of its entries stored
-pub both_stored : (l : List ℕ) (a b : ℕ) → length l ≡ 2 → set (set l 0 a) 1 b ≡ a ∷ b ∷ []
-both_stored [] a b e = absurd (let z : ⊥ = omega (arith, e) in z)
-both_stored (x ∷ []) a b e = absurd (let z : ⊥ = omega (arith, e) in z)
-both_stored (x ∷ y ∷ []) a b e = refl
-both_stored (x ∷ y ∷ z ∷ l) a b e = absurd (let z : ⊥ = omega (arith, e) in z)
-
 -- ## a payload: the bytes that are used, then zeros
 
--- a buffer after its first u entries and then the rest of them were stored
-abbrev pub stored_in_two : List ℕ → ℕ → List ℕ → List ℕ → List ℕ
-stored_in_two old u x z = put_mid u (length (x ++ post_of 0 (u - 0) old) - u) (x ++ post_of 0 (u - 0) old) z
-
-in_two : (old : List ℕ) (u : ℕ) (x z : List ℕ) → length x ≡ u → stored_in_two old u x z ≡ x ++ z
-in_two old u x z e =
-    let rest = post_of 0 (u - 0) old in
-    let none : drop (length (x ++ rest) - u) rest ≡ [] =
-    drop_of_length-le rest {i = length (x ++ rest) - u} (omega (arith, length-append x rest, e)) in
-    (λ t. take_at x rest u e t ++ (z ++ drop (length (x ++ rest) - u) (drop_at x rest u e t)))
-    ∙ (λ t. x ++ (z ++ none t)) ∙ ap (λ (l : List ℕ). x ++ l) (append-nil z)
-
--- how many entries are stored in the second part
-pub second-part : (old : List ℕ) (u : ℕ) (x : List ℕ) → length x ≡ u → u ≤ length old
-    → let w = x ++ post_of 0 (u - 0) old in length (take (length w - u) (drop u w)) ≡ length old - u
-second-part old u x e h =
-    let w = x ++ post_of 0 (u - 0) old in
-    let size : length w ≡ length old = omega (arith, length-append x (post_of 0 (u - 0) old), length-drop (u - 0) old, e) in
-    length-take (length w - u) (drop u w) ∙ omega (arith, length-drop u w, size)
-
-pub payload-stored : (old : List ℕ) (u : ℕ) (x z : List ℕ) (f : ℕ → ℕ) → u ≤ payload_bytes → length x ≡ u
-    → z ≡ tab (λ _. 0) 0 (payload_bytes - u) → ((k : ℕ) → k < u → get_or x k 0 ≡ f k) → ((k : ℕ) → u ≤ k → k < payload_bytes → f k ≡ 0)
-    → stored_in_two old u x z ≡ payload_by f
-payload-stored old u x z f most e zeros used unused =
-    in_two old u x z e
-    ∙ payload-ext f (x ++ z) (omega (arith, length-append x z, e, size))
-    (λ k h.
-    ⊎_elim
-    (λ p.
-    let j : ℕ = k - u in
-    let split : k ≡ length x + j = omega (arith, e) in
-    ap (λ (i : ℕ). get_or (x ++ z) i 0) split ∙ get_or-append-add x z j 0
-    ∙ ap (λ (l : List ℕ). get_or l j 0) zeros ∙ get_or-tab (λ _. 0) (payload_bytes - u) j 0 (omega arith) ∙ sym (unused k p h))
-    (λ p. get_or-append x z 0 k (omega (arith, e)) ∙ used k p)
-    (le-or-lt u k))
+-- a part after its first u bytes and then the k after them were stored
+pub payload-stored : (old rest : List ℕ) (u k : ℕ) → u ≡ min payload_bytes (length rest) → length old ≤ u + k
+    → put_mid u k (take u rest ++ drop u old) (replicate (payload_bytes - u) 0) ≡ payload_by (λ j. get_or rest j 0)
+payload-stored old rest u k few far =
+    part-after x zeros old u k size ∙ ap (λ (l : List ℕ). (x ++ zeros) ++ l) (drop_of_length-le old {i = u + k} (omega arith))
+    ∙ append-nil (x ++ zeros)
+    ∙ payload-ext (λ j. get_or rest j 0) (x ++ zeros) (omega (arith, length-append x zeros, size, length-replicate {A = ℕ} (payload_bytes - u) 0, few))
+    (λ j h. ⊎_elim (λ p. unused j p h) (λ p. get_or-append x zeros 0 j (omega (arith, size)) ∙ get_or-take u rest j 0 p) (le-or-lt u j))
   where
-    size : length z ≡ payload_bytes - u
-    size = ap length zeros ∙ length-tab (λ _. 0) 0 (payload_bytes - u)
+    x : List ℕ
+    x = take u rest
+
+    zeros : List ℕ
+    zeros = replicate (payload_bytes - u) 0
+
+    size : length x ≡ u
+    size = omega (arith, length-take u rest, few)
+
+    unused : (j : ℕ) → u ≤ j → j < payload_bytes → get_or (x ++ zeros) j 0 ≡ get_or rest j 0
+    unused j p h =
+        ap (λ (m : ℕ). get_or (x ++ zeros) m 0) (let e : j ≡ length x + (j - u) = omega (arith, size) in e)
+        ∙ get_or-append-add x zeros (j - u) 0 ∙ get_or-replicate (payload_bytes - u) (j - u) 0 0 (omega arith)
+        ∙ sym (get_or-eq_default rest 0 {n = j} (omega (arith, few)))
 
 -- ## a block: the three words and the payload, then the check
 

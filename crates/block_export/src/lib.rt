@@ -2,36 +2,25 @@
 #![tactic(auto)]
 
 ghost use Rattle.std.specs.Prelude.{◌≡◌, ◌++◌, ◌*◌, ◌≤◌, ◌<◌, length, get_or, drop};
-ghost use Rattle.lists.specs.Fill.{tab};
+ghost use Rattle.answers.specs.Refused.{answer_in};
 ghost use Rattle.record.specs.Record.{longest_record};
 ghost use Rattle.block_check.specs.Check.{block_bytes, payload_bytes};
 ghost use Rattle.block_layout.specs.Layout.{word_bytes, payload_by, block_count, block_of, blocks, exported_of};
 ghost use Rattle.block_layout.specs.Carried.{block_at};
 ghost use Rattle.block_layout.specs.Refusals.{export_refusal, block_refusal};
-ghost use Rattle.block_layout.specs.Given.{length_answer, buffer_after, shown_length};
+ghost use Rattle.block_layout.specs.Given.{length_answer, buffer_after};
 
+use answers::Refusal;
 use block_check::{
     BLOCK_BYTES, COVERED, INDEX_AT, LENGTH_AT, NUMBER_AT, PAYLOAD_AT, PAYLOAD_BYTES,
 };
-use block_layout::LengthAnswer;
 
 // The two bytes of a number, high byte first.
 fn store_word(pair: &mut [u8], x: usize)
-    requires { length pair.old ≡ 2 }
+    requires { (length pair.old ≡ 2) × (x < 65536) }
     ensures { pair.new ≡ word_bytes x }
 {
-    pair[0] = (x / 256 % 256) as u8;
-    pair[1] = (x % 256) as u8;
-}
-
-fn clear(part: &mut [u8])
-    ensures { part.new ≡ tab (λ _. 0) 0 (length part.old) }
-{
-    let mut k: usize = 0;
-    while k < part.len() {
-        part[k] = 0;
-        k += 1;
-    }
+    pair.copy_from_slice(&(x as u16).to_be_bytes());
 }
 
 // The payload of a block: what is left of the record, as far as it goes in, and zeros after its last byte.
@@ -39,9 +28,9 @@ fn store_payload(part: &mut [u8], rest: &[u8])
     requires { length part.old ≡ payload_bytes }
     ensures { part.new ≡ payload_by (λ k. get_or rest.now k 0) }
 {
-    let used = lists::lesser(PAYLOAD_BYTES, rest.len());
-    lists::copy(&mut part[0..used], rest);
-    clear(&mut part[used..]);
+    let used = PAYLOAD_BYTES.min(rest.len());
+    part[..used].copy_from_slice(&rest[..used]);
+    part[used..].fill(0);
 }
 
 // Block i of a record: the words and the payload, then the check over them.
@@ -50,7 +39,7 @@ fn store_block(block: &mut [u8], source: &[u8], i: usize)
     ensures { block.new ≡ block_of source.now i }
 {
     let from = PAYLOAD_BYTES * i;
-    let bytes = lists::lesser(PAYLOAD_BYTES, source.len() - from);
+    let bytes = PAYLOAD_BYTES.min(source.len() - from);
     let number = block_check::word_at(source, 2);
     store_word(&mut block[NUMBER_AT..INDEX_AT], number);
     store_word(&mut block[INDEX_AT..LENGTH_AT], i);
@@ -65,47 +54,45 @@ fn store_blocks(out: &mut [u8], source: &[u8], n: usize)
     requires { (n ≡ block_count (length source.now)) × (block_bytes * n ≤ length out.old) × (length source.now ≤ longest_record) }
     ensures { out.new ≡ blocks source.now n ++ drop (block_bytes * n) out.old }
 {
-    let mut i: usize = 0;
-    while i < n {
+    for i in 0..n {
         let start = BLOCK_BYTES * i;
-        let end = start + BLOCK_BYTES;
-        store_block(&mut out[start..end], source, i);
-        i += 1;
+        store_block(&mut out[start..start + BLOCK_BYTES], source, i);
     }
 }
 
 // The blocks of a record of the edition, at the front of a lent buffer: 25, 1 to 11, or 21 where the buffer cannot hold them.
-pub fn export_record(edition: u64, source: &[u8], out: &mut [u8]) -> LengthAnswer
-    ensures result_value { shown_length result ≡ length_answer (export_refusal edition source.now (length out.old)) (exported_of source.now) }
+#[tactic(auto, unfolding(block_layout::specs::Refusals::export_refusal))]
+pub fn export_record(edition: u64, source: &[u8], out: &mut [u8]) -> Result<usize, Refusal>
+    ensures result_value { answer_in 0 result ≡ length_answer (export_refusal edition source.now (length out.old)) (exported_of source.now) }
     ensures out_after { out.new ≡ buffer_after (export_refusal edition source.now (length out.old)) (exported_of source.now) out.old }
 {
-    let refusal = record::refusal_of(edition, source);
-    if refusal != 0 {
-        return LengthAnswer::Refused(refusal);
-    }
+    record::judge(edition, source)?;
     let n = block_layout::block_count(source.len());
     if out.len() < BLOCK_BYTES * n {
-        return LengthAnswer::Refused(21);
+        return Err(Refusal::TextTooLong);
     }
     store_blocks(out, source, n);
-    LengthAnswer::Length(BLOCK_BYTES * n)
+    Ok(BLOCK_BYTES * n)
 }
 
 // One block of them alone, to be sent again: 25, 1 to 11, 28 where the record has no block of that index, 21.
-pub fn export_block(edition: u64, source: &[u8], index: usize, out: &mut [u8]) -> LengthAnswer
-    ensures result_value { shown_length result ≡ length_answer (block_refusal edition source.now index (length out.old)) (block_at (exported_of source.now) index) }
+#[tactic(auto, unfolding(block_layout::specs::Refusals::block_refusal))]
+pub fn export_block(
+    edition: u64,
+    source: &[u8],
+    index: usize,
+    out: &mut [u8],
+) -> Result<usize, Refusal>
+    ensures result_value { answer_in 0 result ≡ length_answer (block_refusal edition source.now index (length out.old)) (block_at (exported_of source.now) index) }
     ensures out_after { out.new ≡ buffer_after (block_refusal edition source.now index (length out.old)) (block_at (exported_of source.now) index) out.old }
 {
-    let refusal = record::refusal_of(edition, source);
-    if refusal != 0 {
-        return LengthAnswer::Refused(refusal);
-    }
+    record::judge(edition, source)?;
     if index >= block_layout::block_count(source.len()) {
-        return LengthAnswer::Refused(28);
+        return Err(Refusal::WrongBlocks);
     }
     if out.len() < BLOCK_BYTES {
-        return LengthAnswer::Refused(21);
+        return Err(Refusal::TextTooLong);
     }
-    store_block(&mut out[0..BLOCK_BYTES], source, index);
-    LengthAnswer::Length(BLOCK_BYTES)
+    store_block(&mut out[..BLOCK_BYTES], source, index);
+    Ok(BLOCK_BYTES)
 }

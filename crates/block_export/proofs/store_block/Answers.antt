@@ -26,5 +26,5 @@ returns c =
     c.store_payload.new.part c.store_word-4.new.pair (number_of r) c.args.i
     (payload_length (length r) c.args.i) (payload_byte r c.args.i) c.requires.0
     (c.store_word.ensures ∙ ap word_bytes c.word_at-number.ensures.0) c.store_word-2.ensures
-    (c.store_word-3.ensures ∙ ap word_bytes c.lesser-bytes.ensures) (c.store_payload.ensures ∙ rest_of r c.args.i)
+    (c.store_word-3.ensures ∙ ap word_bytes c.min-bytes.ensures) (c.store_payload.ensures ∙ rest_of r c.args.i)
     (c.store_word-4.ensures ∙ ap word_bytes c.check-check.ensures.0)

@@ -3,11 +3,11 @@ use mathlib.Core.List.{List, ◌++◌}
 use Prim.Native.Nat.{ℕ, ◌+◌, ◌*◌, ◌-◌}
 use native.Mathlib.Numerals.{add-one}
 use native.Mathlib.Omega.{arith}
-use lib.ListN.{length, drop}
-use borrow.Rule.Slice.PartMut.{put_mid, mid_len}
+use lib.ListN.{drop}
+use borrow.Rule.Slice.PartMut.{put_mid}
 use Rattle.block_layout.specs.Layout.{blocks, block_of}
 use Rattle.block_layout.proofs.Exported.{length-blocks}
-use Rattle.lists.proofs.Parts.{part-after, length_front}
+use Rattle.lists.proofs.Parts.{part-after}
 use Rattle.block_check.specs.Check.{block_bytes}
 use Rattle.block_export.proofs.store_blocks.Goals as goal
 
@@ -25,28 +25,8 @@ more r before out new i far one =
 
 pub loop-i-init : goal.loop-i-init
 unfolding blocks
-loop-i-init c = (omega arith, refl, refl)
-
-pub store_block-requires : goal.store_block-requires
-store_block-requires c =
-    let i = c.loop-i.i in (
-      mid_len (block_bytes * i) (block_bytes * i + block_bytes) c.loop-i.out (omega arith) ∙ (let e : block_bytes * i + block_bytes - block_bytes * i ≡ block_bytes = omega arith in e),
-      omega arith,
-      omega arith,
-    )
+loop-i-init c = refl
 
 pub loop-i-preserved : goal.loop-i-preserved
 loop-i-preserved c =
-    let a = c.args in
-    let i = c.loop-i.i + 1 in
-    let m = more a.source.now a.out.now c.loop-i.out c.store_block.new.block c.loop-i.i c.loop-i.invariant.2 c.store_block.ensures in
-    (omega arith, ap length m ∙ length_front (blocks a.source.now i) a.out.now (block_bytes * i) (length-blocks a.source.now i) (omega arith), m)
-
-pub returns : goal.returns
-returns c =
-    let a = c.args in
-    let e : c.loop-i.i ≡ a.n = omega arith in
-    c.loop-i.invariant.2 ∙ (λ t. blocks a.source.now (e t) ++ drop (block_bytes * e t) a.out.now)
-
-pub shape_of-out : goal.shape_of-out
-shape_of-out c = c.loop-i.invariant.1
+    more c.args.source.now c.args.out.now c.loop-i.out c.store_block.new.block c.loop-i.i c.loop-i.invariant c.store_block.ensures

@@ -1,29 +1,47 @@
-use mathlib.Core.Path.{◌≡◌, refl, ap, ◌∙◌}
-use mathlib.Core.Bool.{Bool, ◌&&◌}
-use Prim.Native.Nat.{ℕ, ◌+◌, ◌-◌}
+use Prim.Native.Nat.{ℕ, ◌-◌, ◌+◌, min}
+use mathlib.Core.Bool.{Bool}
+use mathlib.Core.List.{List}
+use mathlib.Core.Path.{◌≡◌, refl, ap, sym, ◌∙◌}
+use mathlib.Core.Logic.{⊎_elim}
 use native.Mathlib.Omega.{arith}
-use Rattle.lists.specs.Tests.{all_to}
-use Rattle.lists.proofs.Tests.{all_more}
 use lib.Dec.{eqb}
-use lib.ListN.{get_or}
+use lib.ListN.{length, take, drop, get_or, length-drop}
+use lib.Seq.{get_or-drop}
+use borrow.Author.Rules.{rules}
+use borrow.Author.Tests.{tests}
+use Rattle.std.proofs.lemmas.Iterator.{YieldsList-from_slice}
+use Rattle.std.proofs.lemmas.Iterator.Search.{all_from_yields_List}
+use Rattle.lists.specs.Tests.{all_to}
+use Rattle.lists.proofs.Order.{le-or-lt}
 use Rattle.block_check.specs.Check.{payload_bytes}
+use Rattle.block_layout.specs.Carried.{length_in}
 use Rattle.block_layout.specs.Refusals.{padded}
+use Rattle.block_import.proofs.Parts.{listed}
 use Rattle.block_import.proofs.is_padded.Goals as goal
 
-pub loop-k-init : goal.loop-k-init
-unfolding all_to
-loop-k-init c = (omega arith, refl)
+-- the padding from byte x on, and that it is none where x is past the payload
+abbrev padding : List ℕ → ℕ → Bool
+padding b x = all_to (λ (k : ℕ). eqb (get_or b (6 + x + k) 0) 0) (payload_bytes - x)
 
-pub loop-k-preserved : goal.loop-k-preserved
-loop-k-preserved c =
-    let b = c.args.block.now in
-    let test : ℕ → Bool = λ j. eqb (get_or b (6 + c.word_at-bytes.result + j) 0) 0 in
-    (omega arith, ap (λ (t : Bool). t && test c.loop-k.k) c.loop-k.invariant.1 ∙ all_more test c.loop-k.k)
+clipped : (b : List ℕ) (x : ℕ) → padding b (min x payload_bytes) ≡ padding b x
+unfolding all_to
+clipped b x =
+    ⊎_elim
+    (λ p. ap (padding b) (let e : min x payload_bytes ≡ x = omega arith in e))
+    (λ p.
+    ap (all_to (λ k. eqb (get_or b (6 + min x payload_bytes + k) 0) 0)) (let e : payload_bytes - min x payload_bytes ≡ 0 = omega arith in e)
+    ∙ sym (ap (all_to (λ k. eqb (get_or b (6 + x + k) 0) 0)) (let e : payload_bytes - x ≡ 0 = omega arith in e)))
+    (le-or-lt x payload_bytes)
 
 pub returns : goal.returns
 unfolding padded
 returns c =
     let b = c.args.block.now in
-    let e : c.loop-k.k ≡ payload_bytes - c.word_at-bytes.result = omega (arith, c.lesser-count.ensures) in
-    c.loop-k.invariant.1 ∙ ap (all_to (λ (j : ℕ). eqb (get_or b (6 + c.word_at-bytes.result + j) 0) 0)) e
-    ∙ ap (λ (x : ℕ). all_to (λ (j : ℕ). eqb (get_or b (6 + x + j) 0) 0) (payload_bytes - x)) c.word_at-bytes.ensures.0
+    let m = c.min-bytes.result in
+    let rest = drop (6 + m) b in
+    let n = 510 - (6 + m) in
+    let few : n ≡ payload_bytes - m = omega arith in
+    all_from_yields_List (λ (x : ℕ). eqb x 0) _ _ c.all.result c.all.ensures.ran (YieldsList-from_slice (take n rest) c.iter.ensures.rest) (λ x b q k. search (rules, tests))
+    ∙ listed (λ (x : ℕ). eqb x 0) rest n (omega (arith, length-drop (6 + m) b, c.requires))
+    ∙ (λ t. all_to (λ (k : ℕ). eqb (get_or-drop (6 + m) b k 0 t) 0) (few t))
+    ∙ ap (padding b) c.min-bytes.ensures ∙ clipped b c.word_at.result ∙ ap (padding b) c.word_at.ensures.0

@@ -15,12 +15,12 @@ size : (c : After-word_at-end) → c.word_at-end.result ≡ length_in (block_at 
 unfolding block_at
 size c = c.word_at-end.ensures.0
 
-pub slice_bounds-refusal_of_front-end : goal.slice_bounds-refusal_of_front-end
-slice_bounds-refusal_of_front-end c =
+pub slice_bounds-judge_front-end : goal.slice_bounds-judge_front-end
+slice_bounds-judge_front-end c =
     let s = c.args.blocks.now in
     let small : (j : ℕ) → get_or s j 0 < 256 = λ j. omega (arith, c.type_inv.blocks j) in
     let least = some s small c.requires.0 c.requires.1 in
-    omega (arith, size (goal.at.slice_bounds-refusal_of_front-end c).After-word_at-end, least, length-take block_bytes s, (payload-inside s small c.requires.0 c.requires.1 0 least).0)
+    omega (arith, size (goal.at.slice_bounds-judge_front-end c).After-word_at-end, least, length-take block_bytes s, (payload-inside s small c.requires.0 c.requires.1 0 least).0)
 
 pub returns : goal.returns
 unfolding block_at
@@ -29,8 +29,10 @@ returns c =
     let s = a.blocks.now in
     let e : 6 + c.word_at-end.result - 6 ≡ length_in (block_at s 0) = omega (arith, size (goal.at.returns c).After-word_at-end) in
     let front = ap (λ (m : ℕ). take m (drop 6 (block_at s 0))) e ∙ sym (carried-front s (λ j. omega (arith, c.type_inv.blocks j)) c.requires.0 c.requires.1) in
-    c.refusal_of_front.ensures ∙ (λ t. front_refusal a.edition (front t) (c.requires.2 t))
+    c.judge_front.ensures ∙ (λ t. front_refusal a.edition (front t) (c.requires.2 t))
     ∙ sym (front-enough a.edition payload_bytes (carried_of s) (omega arith))
 
 pub slice_bounds-first-end : goal.slice_bounds-first-end
-slice_bounds-first-end c = omega (arith, some c.args.blocks.now (λ j. omega (arith, c.type_inv.blocks j)) c.requires.0 c.requires.1)
+slice_bounds-first-end c =
+    let s = c.args.blocks.now in
+    omega (arith, length-take block_bytes s, some s (λ j. omega (arith, c.type_inv.blocks j)) c.requires.0 c.requires.1)

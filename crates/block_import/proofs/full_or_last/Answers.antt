@@ -1,8 +1,0 @@
-use borrow.Author.Tests.{lt-ltb, le-ltb}
-use Rattle.block_import.proofs.full_or_last.Goals as goal
-
-pub returns-then-i-n : goal.returns-then-i-n
-returns-then-i-n c = simp (lt-ltb _ _ c.if-i-n.true)
-
-pub returns : goal.returns
-returns c = simp (le-ltb _ _ c.if-i-n.false)
