@@ -66,6 +66,7 @@ fn channel_cell(cells: [u32; WIDTH], channel: usize, j: usize) -> u32
 }
 
 // The total of a channel (1 to 4) from the cells of a second that has so many samples of it.
+#[tactic(auto, unfolding(index_model::specs::Calls::total_from))]
 fn total_from(cells: [u32; WIDTH], count: u64, channel: usize) -> Total
     requires { (count ≤ sample_limit) × (1 ≤ channel) × (channel ≤ 4) }
     ensures { (result ≡ total_from count cells channel) × ExactTotal result }
@@ -83,6 +84,7 @@ fn total_from(cells: [u32; WIDTH], count: u64, channel: usize) -> Total
 }
 
 // Whether a second is KEPT, where so many records make it full.
+#[tactic(auto, unfolding(index_model::specs::Calls::kept_from))]
 fn is_kept(cells: [u32; WIDTH], full: u64) -> bool
     ensures { result ≡ kept_from full cells }
 {
@@ -91,6 +93,7 @@ fn is_kept(cells: [u32; WIDTH], full: u64) -> bool
 }
 
 // The samples of each channel in so many records.
+#[tactic(auto, using(crate::proofs::Decoding::count_most))]
 pub fn samples_in_records(o: Opening, records: u32) -> u64
     ensures { (result ≡ records * samples_per_record (held_rate o)) × (result ≤ sample_limit) }
 {
