@@ -50,6 +50,7 @@ fn greatest_from(x: u32) -> i8
 }
 
 // The sum of so many samples: its cell has the offset of each beside its value.
+#[tactic(auto, using(crate::proofs::Decoding::sum_fits, crate::proofs::Decoding::sum_read, crate::proofs::Decoding::sum_exact))]
 fn sum_from(x: u32, count: u64) -> i64
     requires { count ≤ sample_limit }
     ensures { (result ≡ pos x -ℤ pos (sample_offset * count)) × (nat_abs result ≤ exact_limit) }
