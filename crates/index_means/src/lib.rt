@@ -8,7 +8,7 @@ ghost use Rattle.answers.specs.Refused.{answer_in};
 ghost use Rattle.index_model.specs.Buffers.{lent};
 ghost use Rattle.floats.specs.Whole.{exact_limit};
 ghost use Rattle.index_query.specs.Exact.{ExactTotal, ExactTotals};
-ghost use Rattle.index_means.specs.Means.{no_means, means_of, each_means, no_means_each, means_answer};
+ghost use Rattle.index_means.specs.Means.{means_of, each_means, no_means_each, means_answer};
 
 use answers::Refusal;
 use index_model::Opening;
@@ -21,14 +21,11 @@ pub struct Means {
     pub mean_square: f64,
 }
 
-fn no_means() -> Means
-    ensures { result ≡ no_means }
-{
-    Means {
-        mean: 0.0,
-        mean_square: 0.0,
-    }
-}
+// The means of no samples.
+pub const NO_MEANS: Means = Means {
+    mean: 0.0,
+    mean_square: 0.0,
+};
 
 // Of so many samples with this total. Only numbers that a float holds exactly come here, so each division is rounded once.
 fn means_of(total: Total, count: u64) -> Means
@@ -36,7 +33,7 @@ fn means_of(total: Total, count: u64) -> Means
     ensures { result ≡ means_of total count }
 {
     if count == 0 {
-        return no_means();
+        return NO_MEANS;
     }
     let sum = total.sum as f64;
     let squares = total.squares as f64;
@@ -57,7 +54,12 @@ fn each_means(totals: [Total; 4], count: u64) -> [Means; 4]
 
 // The means of the four channels of a second, by its totals and the samples of its records.
 #[tactic(auto, unfolding(crate::specs::Means::means_answer))]
-pub fn second_means(o: Opening, second: u64, rows: &[u32], seconds: &[u32]) -> Result<[Means; 4], Refusal>
+pub fn second_means(
+    o: Opening,
+    second: u64,
+    rows: &[u32],
+    seconds: &[u32],
+) -> Result<[Means; 4], Refusal>
     ensures { answer_in no_means_each result ≡ means_answer o second (lent rows.now seconds.now) }
 {
     let totals = index_query::query(o, second, rows, seconds)?;

@@ -2,14 +2,11 @@
 use Prim.Native.Nat.{ℕ, suc, ◌-◌, ◌*◌, ◌≤◌, ◌<◌}
 use mathlib.Core.Path.{◌≡◌, sym, ◌∙◌, subst}
 use mathlib.Core.Bool.{Bool, true, false, cond}
-use mathlib.Core.List.{List}
 use mathlib.Core.Logic.{⊎_elim}
 use native.Mathlib.Nat.{mul-le-mul}
 use native.Mathlib.Omega.{arith}
 use lib.Dec.{ltb}
 use lib.IntN.{ℤ, pos, negsuc, nat_abs, ◌-ℤ◌}
-use lib.ListN.{get_or}
-use borrow.Author.Tests.{eq-eqb, ne_eqb}
 use mir.Syntax.{w64}
 use mir.Val.{SFits, to_z, of_z}
 use mir.ValLaws.{to_z_pos, to_z-of_z}
@@ -17,9 +14,7 @@ use Rattle.sample_rates.specs.declared.SampleRate.{SampleRate}
 use Rattle.sample_rates.specs.Rates.{samples_per_record, most_samples}
 use Rattle.editions.specs.Rates.{sample_rate_of}
 use Rattle.editions.proofs.Lines.{rate-line}
-use Rattle.totals.specs.Total.{no_total}
 use Rattle.index_model.specs.Cells.{cell_limit, sample_offset}
-use Rattle.index_model.specs.Calls.{channel_shown, total_from}
 use Rattle.index_model.proofs.Differences.{minus-sub}
 use Rattle.index_query.specs.Inner.{sample_limit}
 use Rattle.floats.specs.Whole.{exact_limit}
