@@ -77,7 +77,7 @@ fn total_from(cells: [u32; WIDTH], count: u64, channel: usize) -> Total
     }
     Total {
         sum: sum_from(channel_cell(cells, channel, SUM), count),
-        squares: index_cells::wide(channel_cell(cells, channel, SQUARES)),
+        squares: u64::from(channel_cell(cells, channel, SQUARES)),
         least: least_from(channel_cell(cells, channel, LEAST)),
         greatest: greatest_from(channel_cell(cells, channel, GREATEST)),
         clipped: channel_cell(cells, channel, CLIPPED),
@@ -89,8 +89,7 @@ fn total_from(cells: [u32; WIDTH], count: u64, channel: usize) -> Total
 fn is_kept(cells: [u32; WIDTH], full: u64) -> bool
     ensures { result ≡ kept_from full cells }
 {
-    let records = index_cells::wide(cells[RECORDS]);
-    (records == full) & (cells[ORIGINS] >= 1) & (cells[ERRORS] == 0)
+    u64::from(cells[RECORDS]) == full && cells[ORIGINS] >= 1 && cells[ERRORS] == 0
 }
 
 // The samples of each channel in so many records.
@@ -99,7 +98,7 @@ pub fn samples_in_records(o: Opening, records: u32) -> u64
     ensures { (result ≡ records * samples_per_record (held_rate o)) × (result ≤ sample_limit) }
 {
     let rate = editions::sample_rate_of(o.edition, o.sample_rate_hz);
-    index_cells::wide(records) * rate.samples
+    u64::from(records) * rate.samples
 }
 
 // The totals of channels 1 to 4.
@@ -152,8 +151,7 @@ pub fn query(o: Opening, second: u64, rows: &[u32], seconds: &[u32]) -> Result<S
 fn row_inside(o: Opening, held: u32, own: u32) -> bool
     ensures { result ≡ (eqb held 0 || in_window o own) }
 {
-    let inside = index_open::in_window(o, index_cells::wide(own));
-    (held == 0) | inside
+    held == 0 || index_open::in_window(o, u64::from(own))
 }
 
 // Whether no held row has a second outside the window.
@@ -171,9 +169,8 @@ fn second_right(o: Opening, rows: &[u32], seconds: &[u32], k: u64) -> bool
     requires { WithinLimits o (lent rows.now seconds.now) × (k < o.second_count) }
     ensures { result ≡ cells_right o (lent rows.now seconds.now) k width }
 {
-    let second = o.first_second + k;
-    let given = index_cells::second_cells(rows, second, o.highest_number);
-    index_cells::block(seconds, k) == given
+    index_cells::block(seconds, k)
+        == index_cells::second_cells(rows, o.first_second + k, o.highest_number)
 }
 
 // Whether the cells of every second of the window are those that the rows give.
