@@ -147,20 +147,13 @@ pub fn query(o: Opening, second: u64, rows: &[u32], seconds: &[u32]) -> Result<S
     Ok(second_from(o, index_cells::block(seconds, place)))
 }
 
-// Whether a row, by its cells of records and second, is not held or is of a second of the window.
-fn row_inside(o: Opening, held: u32, own: u32) -> bool
-    ensures { result ≡ (eqb held 0 || in_window o own) }
-{
-    held == 0 || index_open::in_window(o, u64::from(own))
-}
-
 // Whether no held row has a second outside the window.
 fn rows_inside(o: Opening, rows: &[u32]) -> bool
     ensures { result ≡ rows_inside o rows.now o.highest_number }
 {
     (0..o.highest_number).all(|i| {
-        let held = index_cells::read_cell(rows, i, RECORDS);
-        row_inside(o, held, index_cells::read_cell(rows, i, SECOND))
+        let own = index_cells::read_cell(rows, i, SECOND);
+        index_cells::read_cell(rows, i, RECORDS) == 0 || index_open::in_window(o, u64::from(own))
     })
 }
 
