@@ -1,3 +1,2 @@
 pub mod Means
 pub mod OfLedger
-pub mod Shown

@@ -4,13 +4,13 @@
 #![tactic(auto)]
 
 ghost use Rattle.std.specs.Prelude.{◌≡◌, ◌≤◌};
-ghost use Rattle.answers.specs.Answer.{refused};
+ghost use Rattle.answers.specs.Refused.{answer_in};
 ghost use Rattle.index_model.specs.Buffers.{lent};
 ghost use Rattle.floats.specs.Whole.{exact_limit};
 ghost use Rattle.index_query.specs.Exact.{ExactTotal, ExactTotals};
-ghost use Rattle.index_means.specs.Means.{no_means, means_of, each_means, no_means_each, means_answer};
-ghost use Rattle.index_means.specs.Shown.{shown_means};
+ghost use Rattle.index_means.specs.Means.{means_of, each_means, no_means_each, means_answer};
 
+use answers::Refusal;
 use index_model::Opening;
 use totals::Total;
 
@@ -21,22 +21,11 @@ pub struct Means {
     pub mean_square: f64,
 }
 
-// The means of channels 1 to 4, beside the refusal; with one, every mean is 0.
-#[repr(C)]
-#[derive(Clone, Copy)]
-pub struct MeansAnswer {
-    pub refusal: u8,
-    pub channels: [Means; 4],
-}
-
-fn no_means() -> Means
-    ensures { result ≡ no_means }
-{
-    Means {
-        mean: 0.0,
-        mean_square: 0.0,
-    }
-}
+// The means of no samples.
+pub const NO_MEANS: Means = Means {
+    mean: 0.0,
+    mean_square: 0.0,
+};
 
 // Of so many samples with this total. Only numbers that a float holds exactly come here, so each division is rounded once.
 fn means_of(total: Total, count: u64) -> Means
@@ -44,7 +33,7 @@ fn means_of(total: Total, count: u64) -> Means
     ensures { result ≡ means_of total count }
 {
     if count == 0 {
-        return no_means();
+        return NO_MEANS;
     }
     let sum = total.sum as f64;
     let squares = total.squares as f64;
@@ -60,41 +49,20 @@ fn each_means(totals: [Total; 4], count: u64) -> [Means; 4]
     requires { ExactTotals totals × (count ≤ exact_limit) }
     ensures { result ≡ each_means totals count }
 {
-    let first = totals[0];
-    let second = totals[1];
-    let third = totals[2];
-    let fourth = totals[3];
-    let first_means = means_of(first, count);
-    let second_means = means_of(second, count);
-    let third_means = means_of(third, count);
-    let fourth_means = means_of(fourth, count);
-    [first_means, second_means, third_means, fourth_means]
-}
-
-// Beside a refusal every mean is 0.
-fn no_answer(refusal: u8) -> MeansAnswer
-    requires { 1 ≤ refusal }
-    ensures { shown_means result ≡ refused no_means_each refusal }
-{
-    let none = no_means();
-    MeansAnswer {
-        refusal,
-        channels: [none; 4],
-    }
+    totals.map(|total| means_of(total, count))
 }
 
 // The means of the four channels of a second, by its totals and the samples of its records.
-pub fn second_means(o: Opening, second: u64, rows: &[u32], seconds: &[u32]) -> MeansAnswer
-    ensures { shown_means result ≡ means_answer o second (lent rows.now seconds.now) }
+#[tactic(auto, unfolding(crate::specs::Means::means_answer))]
+pub fn second_means(
+    o: Opening,
+    second: u64,
+    rows: &[u32],
+    seconds: &[u32],
+) -> Result<[Means; 4], Refusal>
+    ensures { answer_in no_means_each result ≡ means_answer o second (lent rows.now seconds.now) }
 {
-    let answer = index_query::query(o, second, rows, seconds);
-    if answer.refusal != 0 {
-        return no_answer(answer.refusal);
-    }
-    let count = index_query::samples_in_records(o, answer.records);
-    let totals = answer.channels;
-    MeansAnswer {
-        refusal: 0,
-        channels: each_means(totals, count),
-    }
+    let totals = index_query::query(o, second, rows, seconds)?;
+    let count = index_query::samples_in_records(o, totals.records);
+    Ok(each_means(totals.channels, count))
 }

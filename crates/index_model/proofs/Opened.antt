@@ -1,7 +1,7 @@
 -- An accepted opening: no later call refuses what it returned, and its cells agree with the empty ledger. Assumes nothing.
 use Prim.Native.Nat.{ℕ, zero, suc, ◌+◌, ◌*◌, ◌≤◌}
 use mathlib.Core.Path.{◌≡◌, refl, ap, sym, ◌∙◌, subst}
-use mathlib.Core.Bool.{false, ◌||◌}
+use mathlib.Core.Bool.{Bool, true, false, cond, ◌||◌}
 use mathlib.Core.List.{List, [], ◌∷◌}
 use native.Mathlib.Omega.{arith}
 use lib.Dec.{eqb}
@@ -16,7 +16,8 @@ use Rattle.checks.specs.declared.Judged.{Judged}
 use Rattle.checks.specs.Checks.{checks, judged_of}
 use Rattle.answers.specs.Answer.{Answer}
 use Rattle.record.specs.Record.{record_refusal}
-use Rattle.answers.specs.Refusal.{◌when◌, first}
+use borrow.Author.Tests.{eqb-true}
+use Rattle.answers.specs.Refusal.{◌when◌, first, ◌then◌}
 use Rattle.answers.proofs.Refusals.{no_check, none-applies, then-zero, unless-none, cond-none}
 use Rattle.index_model.specs.Records.{Record, refusal_of}
 use Rattle.index_model.specs.declared.Opening.{Opening}
@@ -26,6 +27,7 @@ use Rattle.index_model.specs.Opening.{
   limits_wrong,
   held_wrong,
   too_small,
+  opening_refusal,
   opening_of,
   no_opening,
   cleared,
@@ -69,6 +71,27 @@ held-fine pattern F C R e =
 
     at : (k : ℕ) → (get_or (checks n judged) k no_check).applies ≡ false
     at k = none-applies (checks n judged) k tt e
+
+-- so opening refuses the pattern, or else what every later call does
+pub open_by : (pattern : Record) (F C R : ℕ) (c : Buffers)
+    → open_refusal pattern F C R c ≡ refusal_of pattern then opening_refusal (opening_of pattern F C R) c
+unfolding open_refusal opening_refusal
+open_by pattern F C R c = by-test (eqb (refusal_of pattern) 0) refl
+  where
+    o : Opening
+    o = opening_of pattern F C R
+
+    later : Bool → ℕ
+    later wrong = first (13 when wrong ∷ 14 when too_small o c ∷ [])
+
+    or-none : (a b : Bool) → b ≡ false → a || b ≡ a
+    or-none true b e = refl
+    or-none false b e = e
+
+    by-test : (t : Bool) → eqb (refusal_of pattern) 0 ≡ t
+        → cond t (later (limits_wrong o)) (refusal_of pattern) ≡ cond t (later (limits_wrong o || held_wrong o)) (refusal_of pattern)
+    by-test true e = ap later (sym (or-none _ _ (held-fine pattern F C R (eqb-true (refusal_of pattern) 0 e))))
+    by-test false e = refl
 
 module _ (pattern : Record) (F C R : ℕ) (c : Buffers) (e : open_refusal pattern F C R c ≡ 0) where
   abbrev o : Opening

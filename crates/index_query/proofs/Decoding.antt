@@ -2,14 +2,11 @@
 use Prim.Native.Nat.{ℕ, suc, ◌-◌, ◌*◌, ◌≤◌, ◌<◌}
 use mathlib.Core.Path.{◌≡◌, sym, ◌∙◌, subst}
 use mathlib.Core.Bool.{Bool, true, false, cond}
-use mathlib.Core.List.{List}
 use mathlib.Core.Logic.{⊎_elim}
 use native.Mathlib.Nat.{mul-le-mul}
 use native.Mathlib.Omega.{arith}
 use lib.Dec.{ltb}
 use lib.IntN.{ℤ, pos, negsuc, nat_abs, ◌-ℤ◌}
-use lib.ListN.{get_or}
-use borrow.Author.Tests.{eq-eqb, ne_eqb}
 use mir.Syntax.{w64}
 use mir.Val.{SFits, to_z, of_z}
 use mir.ValLaws.{to_z_pos, to_z-of_z}
@@ -17,9 +14,7 @@ use Rattle.sample_rates.specs.declared.SampleRate.{SampleRate}
 use Rattle.sample_rates.specs.Rates.{samples_per_record, most_samples}
 use Rattle.editions.specs.Rates.{sample_rate_of}
 use Rattle.editions.proofs.Lines.{rate-line}
-use Rattle.totals.specs.Total.{no_total}
 use Rattle.index_model.specs.Cells.{cell_limit, sample_offset}
-use Rattle.index_model.specs.Calls.{channel_shown, total_from}
 use Rattle.index_model.proofs.Differences.{minus-sub}
 use Rattle.index_query.specs.Inner.{sample_limit}
 use Rattle.floats.specs.Whole.{exact_limit}
@@ -60,19 +55,8 @@ module _ (x count : ℕ) (p : x < cell_limit) (q : count ≤ sample_limit) where
   pub sum_fits : SFits w64 (to_z w64 x -ℤ to_z w64 (sample_offset * count))
   sum_fits = subst (SFits w64) (sym read) (difference-fits x (sample_offset * count) p (omega arith))
 
-  pub sum-read : to_z w64 (of_z w64 (to_z w64 x -ℤ to_z w64 (sample_offset * count))) ≡ pos x -ℤ pos (sample_offset * count)
-  sum-read = to_z-of_z w64 (to_z w64 x -ℤ to_z w64 (sample_offset * count)) sum_fits ∙ read
+  pub sum_read : to_z w64 (of_z w64 (to_z w64 x -ℤ to_z w64 (sample_offset * count))) ≡ pos x -ℤ pos (sample_offset * count)
+  sum_read = to_z-of_z w64 (to_z w64 x -ℤ to_z w64 (sample_offset * count)) sum_fits ∙ read
 
-  pub sum-exact : nat_abs (to_z w64 (of_z w64 (to_z w64 x -ℤ to_z w64 (sample_offset * count)))) ≤ exact_limit
-  sum-exact = subst (λ (z : ℤ). nat_abs z ≤ exact_limit) (sym sum-read) (difference-exact x (sample_offset * count) p (omega arith))
-
--- ## the total
-
-module _ (n : ℕ) (second : List ℕ) (channel : ℕ) where
-  pub none_read : get_or second 0 0 ≡ 0 → no_total ≡ total_from n second channel
-  unfolding total_from
-  none_read e = sym (λ t. cond (eq-eqb (get_or second 0 0) 0 e t) no_total (channel_shown n second channel))
-
-  pub some_read : (get_or second 0 0 ≡ 0 → ⊥) → channel_shown n second channel ≡ total_from n second channel
-  unfolding total_from
-  some_read e = sym (λ t. cond (ne_eqb (get_or second 0 0) 0 e t) no_total (channel_shown n second channel))
+  pub sum_exact : nat_abs (to_z w64 (of_z w64 (to_z w64 x -ℤ to_z w64 (sample_offset * count)))) ≤ exact_limit
+  sum_exact = subst (λ (z : ℤ). nat_abs z ≤ exact_limit) (sym sum_read) (difference-exact x (sample_offset * count) p (omega arith))

@@ -1,3 +1,4 @@
 pub mod Decoding
 pub mod Testing
 pub mod Asking
+pub mod Each

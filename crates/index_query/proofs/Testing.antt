@@ -1,71 +1,69 @@
--- The test: its loops, one cell, one row or one second more, and its answer. Assumes nothing.
-use Prim.Native.Nat.{ℕ, zero, suc, ◌+◌, ◌/◌, ◌≤◌, ◌<◌, min}
-use mathlib.Core.Path.{◌≡◌, refl, ap, sym, ◌∙◌}
-use mathlib.Core.Bool.{Bool, false, ◌&&◌, ◌||◌}
-use mathlib.Core.List.{List}
+-- The test: its answer by those of each row, each second and each cell. Assumes nothing.
+use Prim.Native.Nat.{ℕ, zero, suc, ◌+◌, ◌/◌, ◌<◌, min}
+use mathlib.Core.Path.{◌≡◌, ap, sym, ◌∙◌}
+use mathlib.Core.Bool.{Bool, true, ◌&&◌}
+use mathlib.Core.List.{List, [], ◌∷◌}
 use native.Mathlib.Omega.{arith}
-use native.Mathlib.Numerals.{add-one}
 use lib.Dec.{eqb}
 use lib.ListN.{length, get_or}
-use Rattle.answers.specs.Answer.{accepted, refused}
-use Rattle.answers.proofs.Refusals.{unless-none, unless-some}
+use Rattle.std.specs.List.{list_all, range_with_len}
+use Rattle.std.specs.Cmp.Lexicographic.{pointwise}
+use Rattle.lists.proofs.Truth.{and-true, and_assoc}
 use Rattle.index_model.specs.declared.Opening.{Opening}
-use Rattle.index_model.specs.Cells.{width, cell, block_at, second_from}
+use Rattle.index_model.specs.Cells.{width, cell, cell_from, second_from}
 use Rattle.index_model.specs.Buffers.{Buffers}
 use Rattle.index_model.specs.Limits.{WithinLimits}
-use Rattle.index_model.specs.Opening.{opening_refusal, in_window}
-use Rattle.index_model.specs.Calls.{rows_inside, cells_right, seconds_right, is_consistent, consistency_answer}
+use Rattle.index_model.specs.Calls.{cells_right}
 use Rattle.index_model.proofs.Blocks.{block-at}
 use Rattle.index_model.proofs.Seconds.{second_at}
 use Rattle.index_cells.specs.Blocks.{block_or_none}
 use Rattle.index_cells.proofs.Held.{block_read, all-rows}
-use Rattle.index_query.specs.Inner.{same_to}
 
-pub same_more : (a b : List ℕ) (j : ℕ) (same : Bool) → same ≡ same_to a b j → (same && eqb (get_or a j 0) (get_or b j 0))
-    ≡ same_to a b (j + 1)
-unfolding same_to
-same_more a b j same e = (λ t. e t && eqb (get_or a j 0) (get_or b j 0)) ∙ (λ t. same_to a b (sym (add-one j) t))
+-- a test of all numbers below n, by a definition that tests one number more each time
+module _ (made test : ℕ → Bool) (more : (k : ℕ) → made (suc k) ≡ (made k && test k)) where
+  made-from : (k n : ℕ) → (made k && list_all test (range_with_len k n)) ≡ made (k + n)
+  made-from k zero = and-true (made k) ∙ ap made (omega arith)
+  made-from k (suc n) =
+      sym (and_assoc (made k) (test k) (list_all test (range_with_len (k + 1) n)))
+      ∙ (λ t. sym (more k) t && list_all test (range_with_len (k + 1) n))
+      ∙ ap (λ (i : ℕ). made i && list_all test (range_with_len (k + 1) n)) (omega arith)
+      ∙ made-from (k + 1) n
+      ∙ ap made (omega arith)
 
-module _ (o : Opening) (rows : List ℕ) where
-  pub rows_more : (i : ℕ) (inside next : Bool) → inside ≡ rows_inside o rows i
-      → next ≡ (eqb (cell rows i 0) 0 || in_window o (cell rows i 3)) → (inside && next) ≡ rows_inside o rows (i + 1)
-  unfolding rows_inside
-  rows_more i inside next e n = (λ t. e t && n t) ∙ (λ t. rows_inside o rows (sym (add-one i) t))
+  pub made-below : (n : ℕ) → made 0 ≡ true → list_all test (range_with_len 0 n) ≡ made n
+  made-below n none =
+      (λ t. sym none t && list_all test (range_with_len 0 n)) ∙ made-from 0 n ∙ ap made (omega arith)
 
-module _ (o : Opening) (c : Buffers) where
-  cells_same : (k m : ℕ) → m ≤ width
-      → same_to (block_at c.seconds k) (second_from c.rows (o.first_second + k) o.highest_number) m
-      ≡ cells_right o c k m
-  unfolding same_to cells_right
-  cells_same k zero h = refl
-  cells_same k (suc j) h =
-      λ t. cells_same k j (omega arith) t
-      && eqb (block-at c.seconds k j (omega arith) t)
-      (second_at c.rows (o.first_second + k) o.highest_number j (omega arith) t)
+-- the comparison of two lists of n numbers, likewise
+pub made-same : (xs ys : List ℕ) (n : ℕ) (made : ℕ → Bool) → length xs ≡ n → length ys ≡ n
+    → ((j : ℕ) → j < n → made (suc j) ≡ (made j && eqb (get_or xs j 0) (get_or ys j 0)))
+    → (made 0 && pointwise eqb xs ys) ≡ made n
+made-same [] [] n made p q more = and-true (made 0) ∙ ap made p
+made-same [] (y ∷ ys) n made p q more = absurd (omega (arith, p, q))
+made-same (x ∷ xs) [] n made p q more = absurd (omega (arith, p, q))
+made-same (x ∷ xs) (y ∷ ys) zero made p q more = absurd (omega (arith, p))
+made-same (x ∷ xs) (y ∷ ys) (suc n) made p q more =
+    sym (and_assoc (made 0) (eqb x y) (pointwise eqb xs ys))
+    ∙ (λ t. sym (more 0 (omega arith)) t && pointwise eqb xs ys)
+    ∙ made-same xs ys n (λ (j : ℕ). made (suc j)) (omega (arith, p)) (omega (arith, q)) (λ j h. more (suc j) (omega arith))
 
-  -- a second's cells, as they are read and worked out
-  pub second-same : (k : ℕ) → k < o.second_count → WithinLimits o c
-      → same_to (block_or_none c.seconds k)
-      (second_from c.rows (o.first_second + k) (min o.highest_number (length c.rows / width))) width
-      ≡ cells_right o c k width
-  second-same k h limits =
-      (λ t. same_to (block_read c.seconds o.second_count k limits.seconds-long h t)
-      (second_from c.rows (o.first_second + k) (all-rows c.rows o.highest_number limits.rows_long t)) width)
-      ∙ cells_same k width (omega arith)
+-- a second's cells, as they are read and worked out
+module _ (o : Opening) (c : Buffers) (k : ℕ) (h : k < o.second_count) (limits : WithinLimits o c) where
+  pub second-same : (held given : List ℕ) → length held ≡ width → length given ≡ width → held ≡ block_or_none c.seconds k
+      → given ≡ second_from c.rows (o.first_second + k) (min o.highest_number (length c.rows / width))
+      → pointwise eqb held given ≡ cells_right o c k width
+  unfolding cells_right
+  second-same held given p q e f =
+      made-same held given width (cells_right o c k) p q (λ j l t. cells_right o c k j
+      && eqb (sym (read j l) t) (sym (worked j l) t))
+    where
+      read : (j : ℕ) → j < width → get_or held j 0 ≡ cell c.seconds k j
+      read j l =
+          ap (λ (b : List ℕ). get_or b j 0) (e ∙ block_read c.seconds o.second_count k limits.seconds-long h)
+          ∙ block-at c.seconds k j l
 
-  pub seconds-more : (k : ℕ) (right next : Bool) → right ≡ seconds_right o c k → next ≡ cells_right o c k width
-      → (right && next) ≡ seconds_right o c (k + 1)
-  unfolding seconds_right
-  seconds-more k right next e n = (λ t. e t && n t) ∙ (λ t. seconds_right o c (sym (add-one k) t))
-
-  pub tested : (n : ℕ) (inside right : Bool) → n ≡ opening_refusal o c → n ≡ 0
-      → inside ≡ rows_inside o c.rows o.highest_number → right ≡ seconds_right o c o.second_count
-      → accepted (inside && right) ≡ consistency_answer o c
-  unfolding consistency_answer is_consistent
-  tested n inside right e z p q =
-      (λ t. accepted (p t && q t)) ∙ unless-none (opening_refusal o c) false (is_consistent o c) (sym e ∙ z)
-
-  pub not_tested : (n : ℕ) → n ≡ opening_refusal o c → (n ≡ 0 → ⊥) → refused false n ≡ consistency_answer o c
-  unfolding consistency_answer
-  not_tested n e some =
-      ap (λ (n : ℕ). refused false n) e ∙ unless-some (opening_refusal o c) false (is_consistent o c) (λ z. some (e ∙ z))
+      worked : (j : ℕ) → j < width → get_or given j 0 ≡ cell_from c.rows (o.first_second + k) j o.highest_number
+      worked j l =
+          ap (λ (b : List ℕ). get_or b j 0)
+          (f ∙ ap (second_from c.rows (o.first_second + k)) (all-rows c.rows o.highest_number limits.rows_long))
+          ∙ second_at c.rows (o.first_second + k) o.highest_number j l

@@ -1,16 +1,7 @@
--- The number and the values for each case of the code's answers.
-use Rattle.std.specs.Prelude.{Bool, false}
-use Rattle.answers.specs.Answer.{Answer, accepted, refused, told}
+-- The definition's value for the code's.
 use Rattle.index_model.specs.Second.{SecondTotals}
-use Rattle.index_query.specs.declared.SecondAnswer.{SecondAnswer}
-use Rattle.index_query.specs.declared.ConsistencyAnswer.{ConsistencyAnswer}
+use Rattle.index_query.specs.declared.Second.{Second}
 
--- the number is the field `refusal`, the values are the other fields
-abbrev pub shown_second : SecondAnswer → Answer SecondTotals
-shown_second r =
-    told r.refusal
-    (record { records = r.records; origins = r.origins; errors = r.errors; channels = r.channels; kept = r.kept })
-
-abbrev pub shown_consistency : ConsistencyAnswer → Answer Bool
-shown_consistency (ConsistencyAnswer.Consistent b) = accepted b
-shown_consistency (ConsistencyAnswer.Refused n) = refused false n
+abbrev pub shown_second : Second → SecondTotals
+shown_second s =
+    record { records = s.records; origins = s.origins; errors = s.errors; channels = s.channels; kept = s.kept }

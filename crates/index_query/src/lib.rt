@@ -1,22 +1,23 @@
 // Questions to the index about a second, and the test of its cells. FORMAT, "The index of seconds", "Refusal numbers". Every
-// public function here takes any value of an opening and any cells, and changes none; 0 is no refusal.
+// public function here takes any value of an opening and any cells, and changes none.
 #![tactic(auto)]
 
-ghost use Rattle.std.specs.Prelude.{◌≡◌, ◌||◌, ◌*◌, ◌≤◌, ◌<◌, eqb, pos, nat_abs, ◌-ℤ◌, get_or};
+ghost use Rattle.std.specs.Prelude.{◌≡◌, IfOk, false, ◌||◌, ◌*◌, ◌≤◌, ◌<◌, eqb, pos, nat_abs, ◌-ℤ◌, get_or};
 ghost use Rattle.lists.specs.Fill.{tab};
 ghost use Rattle.floats.specs.Whole.{exact_limit};
 ghost use Rattle.sample_rates.specs.Rates.{samples_per_record};
-ghost use Rattle.answers.specs.Answer.{accepted, refused};
+ghost use Rattle.answers.specs.Refused.{refusal_in, answer_by, answer_in};
 ghost use Rattle.index_model.specs.Second.{no_second};
 ghost use Rattle.index_model.specs.Cells.{width, channel_width, channel_cell, sample_offset};
 ghost use Rattle.index_model.specs.Buffers.{lent};
 ghost use Rattle.index_model.specs.Limits.{WithinLimits};
 ghost use Rattle.index_model.specs.Opening.{held_rate, in_window};
 ghost use Rattle.index_model.specs.Calls.{least_from, greatest_from, total_from, kept_from, second_shown, query_refusal, query_answer, rows_inside, cells_right, seconds_right, consistency_answer};
-ghost use Rattle.index_query.specs.Inner.{sample_limit, same_to};
+ghost use Rattle.index_query.specs.Inner.{sample_limit};
 ghost use Rattle.index_query.specs.Exact.{ExactTotal, ExactTotals};
-ghost use Rattle.index_query.specs.Shown.{shown_second, shown_consistency};
+ghost use Rattle.index_query.specs.Shown.{shown_second};
 
+use answers::Refusal;
 use index_cells::{ERRORS, ORIGINS, RECORDS, SECOND};
 use index_model::{
     CHANNEL_WIDTH, CLIPPED, GREATEST, GREATEST_OFFSET, HEAD_WIDTH, LEAST, Opening, SAMPLE_OFFSET,
@@ -24,24 +25,14 @@ use index_model::{
 };
 use totals::{NO_TOTAL, Total};
 
-// A second's totals and verdict, beside the refusal. An enum cannot hold an array, so the refusal is a field; with one, every
-// other field is 0.
-#[repr(C)]
+// A second's totals and verdict.
 #[derive(Clone, Copy)]
-pub struct SecondAnswer {
-    pub refusal: u8,
+pub struct Second {
     pub records: u32,
     pub origins: u32,
     pub errors: u32,
     pub channels: [Total; 4],
     pub kept: bool,
-}
-
-// Whether the cells are those that the rows give, or the refusal.
-#[derive(Clone, Copy)]
-pub enum ConsistencyAnswer {
-    Consistent(bool),
-    Refused(u8),
 }
 
 // The least sample: the offset less its cell, as a signed byte.
@@ -59,6 +50,7 @@ fn greatest_from(x: u32) -> i8
 }
 
 // The sum of so many samples: its cell has the offset of each beside its value.
+#[tactic(auto, using(crate::proofs::Decoding::sum_fits, crate::proofs::Decoding::sum_read, crate::proofs::Decoding::sum_exact))]
 fn sum_from(x: u32, count: u64) -> i64
     requires { count ≤ sample_limit }
     ensures { (result ≡ pos x -ℤ pos (sample_offset * count)) × (nat_abs result ≤ exact_limit) }
@@ -75,6 +67,7 @@ fn channel_cell(cells: [u32; WIDTH], channel: usize, j: usize) -> u32
 }
 
 // The total of a channel (1 to 4) from the cells of a second that has so many samples of it.
+#[tactic(auto, unfolding(index_model::specs::Calls::total_from))]
 fn total_from(cells: [u32; WIDTH], count: u64, channel: usize) -> Total
     requires { (count ≤ sample_limit) × (1 ≤ channel) × (channel ≤ 4) }
     ensures { (result ≡ total_from count cells channel) × ExactTotal result }
@@ -84,7 +77,7 @@ fn total_from(cells: [u32; WIDTH], count: u64, channel: usize) -> Total
     }
     Total {
         sum: sum_from(channel_cell(cells, channel, SUM), count),
-        squares: index_cells::wide(channel_cell(cells, channel, SQUARES)),
+        squares: u64::from(channel_cell(cells, channel, SQUARES)),
         least: least_from(channel_cell(cells, channel, LEAST)),
         greatest: greatest_from(channel_cell(cells, channel, GREATEST)),
         clipped: channel_cell(cells, channel, CLIPPED),
@@ -92,19 +85,20 @@ fn total_from(cells: [u32; WIDTH], count: u64, channel: usize) -> Total
 }
 
 // Whether a second is KEPT, where so many records make it full.
+#[tactic(auto, unfolding(index_model::specs::Calls::kept_from))]
 fn is_kept(cells: [u32; WIDTH], full: u64) -> bool
     ensures { result ≡ kept_from full cells }
 {
-    let records = index_cells::wide(cells[RECORDS]);
-    (records == full) & (cells[ORIGINS] >= 1) & (cells[ERRORS] == 0)
+    u64::from(cells[RECORDS]) == full && cells[ORIGINS] >= 1 && cells[ERRORS] == 0
 }
 
 // The samples of each channel in so many records.
+#[tactic(auto, using(crate::proofs::Decoding::count_most))]
 pub fn samples_in_records(o: Opening, records: u32) -> u64
     ensures { (result ≡ records * samples_per_record (held_rate o)) × (result ≤ sample_limit) }
 {
     let rate = editions::sample_rate_of(o.edition, o.sample_rate_hz);
-    index_cells::wide(records) * rate.samples
+    u64::from(records) * rate.samples
 }
 
 // The totals of channels 1 to 4.
@@ -112,101 +106,55 @@ fn totals_from(cells: [u32; WIDTH], count: u64) -> [Total; 4]
     requires { count ≤ sample_limit }
     ensures { (result ≡ tab (total_from count cells) 1 4) × ExactTotals result }
 {
-    let one = total_from(cells, count, 1);
-    let two = total_from(cells, count, 2);
-    let three = total_from(cells, count, 3);
-    let four = total_from(cells, count, 4);
-    [one, two, three, four]
+    [1, 2, 3, 4].map(|channel| total_from(cells, count, channel))
 }
 
 // What the cells of a second say.
-fn second_from(o: Opening, cells: [u32; WIDTH]) -> SecondAnswer
-    ensures { (shown_second result ≡ accepted (second_shown o cells)) × ExactTotals result.channels }
+#[tactic(auto, unfolding(index_model::specs::Calls::second_shown))]
+fn second_from(o: Opening, cells: [u32; WIDTH]) -> Second
+    ensures { (shown_second result ≡ second_shown o cells) × ExactTotals result.channels }
 {
     let count = samples_in_records(o, cells[RECORDS]);
-    let channels = totals_from(cells, count);
-    SecondAnswer {
-        refusal: 0,
+    Second {
         records: cells[RECORDS],
         origins: cells[ORIGINS],
         errors: cells[ERRORS],
-        channels,
+        channels: totals_from(cells, count),
         kept: is_kept(cells, index_open::full_count(o)),
     }
 }
 
-// Beside a refusal every value is 0.
-fn no_second(refusal: u8) -> SecondAnswer
-    requires { 1 ≤ refusal }
-    ensures { (shown_second result ≡ refused no_second refusal) × ExactTotals result.channels }
+// Whether a question about a second is answered, or the refusal.
+#[tactic(auto, unfolding(index_model::specs::Calls::query_refusal))]
+fn judge(o: Opening, second: u64, rows: &[u32], seconds: &[u32]) -> Result<(), Refusal>
+    ensures { refusal_in result ≡ query_refusal o second (lent rows.now seconds.now) }
 {
-    SecondAnswer {
-        refusal,
-        records: 0,
-        origins: 0,
-        errors: 0,
-        channels: [NO_TOTAL; 4],
-        kept: false,
+    index_open::judge_opening(o, rows, seconds)?;
+    if index_open::in_window(o, second) {
+        return Ok(());
     }
-}
-
-// The refusal of a question about a second, or 0.
-fn judge(o: Opening, second: u64, rows: &[u32], seconds: &[u32]) -> u8
-    ensures { result ≡ query_refusal o second (lent rows.now seconds.now) }
-{
-    let outside = answers::check(17, !index_open::in_window(o, second), 0);
-    answers::first_refusal(index_open::opening_refusal(o, rows, seconds), outside)
+    Err(Refusal::SecondOutside)
 }
 
 // A second's totals and verdict. On any cells, a 64-bit float holds each sum and each sum of squares exactly.
-pub fn query(o: Opening, second: u64, rows: &[u32], seconds: &[u32]) -> SecondAnswer
-    ensures result_value { shown_second result ≡ query_answer o second (lent rows.now seconds.now) }
-    ensures exact_totals { ExactTotals result.channels }
+#[tactic(auto, unfolding(index_model::specs::Calls::query_answer))]
+pub fn query(o: Opening, second: u64, rows: &[u32], seconds: &[u32]) -> Result<Second, Refusal>
+    ensures result_value { answer_by shown_second no_second result ≡ query_answer o second (lent rows.now seconds.now) }
+    ensures exact_totals { IfOk result (λ s. ExactTotals s.channels) }
 {
-    let n = judge(o, second, rows, seconds);
-    if n == 0 {
-        let place = index_open::window_place(o, second);
-        return second_from(o, index_cells::block(seconds, place));
-    }
-    no_second(n)
-}
-
-// Whether a row, by its cells of records and second, is not held or is of a second of the window.
-fn row_inside(o: Opening, held: u32, own: u32) -> bool
-    ensures { result ≡ (eqb held 0 || in_window o own) }
-{
-    let inside = index_open::in_window(o, index_cells::wide(own));
-    (held == 0) | inside
+    judge(o, second, rows, seconds)?;
+    let place = index_open::window_place(o, second);
+    Ok(second_from(o, index_cells::block(seconds, place)))
 }
 
 // Whether no held row has a second outside the window.
 fn rows_inside(o: Opening, rows: &[u32]) -> bool
     ensures { result ≡ rows_inside o rows.now o.highest_number }
 {
-    let count = o.highest_number;
-    let mut inside = true;
-    let mut i: u64 = 0;
-    while i < count {
-        let held = index_cells::read_cell(rows, i, RECORDS);
-        let next = row_inside(o, held, index_cells::read_cell(rows, i, SECOND));
-        inside = inside & next;
-        i += 1;
-    }
-    inside
-}
-
-// Whether the cells of two seconds are the same.
-fn same_cells(a: [u32; WIDTH], b: [u32; WIDTH]) -> bool
-    ensures { result ≡ same_to a b width }
-{
-    let mut same = true;
-    let mut j: usize = 0;
-    while j < WIDTH {
-        let equal = a[j] == b[j];
-        same = same & equal;
-        j += 1;
-    }
-    same
+    (0..o.highest_number).all(|i| {
+        let own = index_cells::read_cell(rows, i, SECOND);
+        index_cells::read_cell(rows, i, RECORDS) == 0 || index_open::in_window(o, u64::from(own))
+    })
 }
 
 // Whether the cells of second k of the window are those that the rows give.
@@ -214,9 +162,8 @@ fn second_right(o: Opening, rows: &[u32], seconds: &[u32], k: u64) -> bool
     requires { WithinLimits o (lent rows.now seconds.now) × (k < o.second_count) }
     ensures { result ≡ cells_right o (lent rows.now seconds.now) k width }
 {
-    let second = o.first_second + k;
-    let given = index_cells::second_cells(rows, second, o.highest_number);
-    same_cells(index_cells::block(seconds, k), given)
+    index_cells::block(seconds, k)
+        == index_cells::second_cells(rows, o.first_second + k, o.highest_number)
 }
 
 // Whether the cells of every second of the window are those that the rows give.
@@ -224,26 +171,14 @@ fn seconds_right(o: Opening, rows: &[u32], seconds: &[u32]) -> bool
     requires { WithinLimits o (lent rows.now seconds.now) }
     ensures { result ≡ seconds_right o (lent rows.now seconds.now) o.second_count }
 {
-    let count = o.second_count;
-    let mut right = true;
-    let mut k: u64 = 0;
-    while k < count {
-        let next = second_right(o, rows, seconds, k);
-        right = right & next;
-        k += 1;
-    }
-    right
+    (0..o.second_count).all(|k| second_right(o, rows, seconds, k))
 }
 
 // Whether no held row has a second outside the window and the second cells are those that the rows give.
-pub fn is_consistent(o: Opening, rows: &[u32], seconds: &[u32]) -> ConsistencyAnswer
-    ensures { shown_consistency result ≡ consistency_answer o (lent rows.now seconds.now) }
+#[tactic(auto, unfolding(index_model::specs::Calls::is_consistent, index_model::specs::Calls::consistency_answer))]
+pub fn is_consistent(o: Opening, rows: &[u32], seconds: &[u32]) -> Result<bool, Refusal>
+    ensures { answer_in false result ≡ consistency_answer o (lent rows.now seconds.now) }
 {
-    let n = index_open::opening_refusal(o, rows, seconds);
-    if n == 0 {
-        let inside = rows_inside(o, rows);
-        let right = seconds_right(o, rows, seconds);
-        return ConsistencyAnswer::Consistent(inside & right);
-    }
-    ConsistencyAnswer::Refused(n)
+    index_open::judge_opening(o, rows, seconds)?;
+    Ok(rows_inside(o, rows) && seconds_right(o, rows, seconds))
 }

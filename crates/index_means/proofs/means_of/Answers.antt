@@ -1,8 +1,8 @@
-use mathlib.Core.Path.{◌≡◌, sym, ◌∙◌, subst}
+use mathlib.Core.Path.{◌≡◌, sym, subst}
 use native.Mathlib.Omega.{arith}
 use lib.Dec.{T}
 use lib.IntN.{ℤ, pos}
-use lib.Ieee.{binary64, in_float}
+use lib.Ieee.{binary64, of_bits, in_float}
 use mir.Syntax.{w64}
 use mir.Val.{to_z, of_z}
 use mir.ValLaws.{to_z-of_z}
@@ -11,7 +11,8 @@ use Rattle.index_means.proofs.Dividing.{means-none, divided}
 use Rattle.index_means.proofs.means_of.Goals as goal
 
 pub returns-then-count-eq0 : goal.returns-then-count-eq0
-returns-then-count-eq0 c = c.no_means.ensures ∙ sym (means-none _ _ (omega (arith, c.if-count-eq0.true)))
+unfolding of_bits
+returns-then-count-eq0 c = sym (means-none _ _ (omega (arith, c.if-count-eq0.true)))
 
 pub int_to_float-sum : goal.int_to_float-sum
 int_to_float-sum c =
