@@ -2,11 +2,11 @@
 // any edition, any bytes and any place.
 #![tactic(auto)]
 
-ghost use Rattle.std.specs.Prelude.{◌≡◌, ◌<◌, ◌^◌};
-ghost use Rattle.answers.specs.Refused.{refusal_in};
+ghost use Rattle.std.specs.Prelude.{◌≡◌, ◌<◌, ◌^◌, None};
+ghost use Rattle.answers.specs.Refused.{refusal_in, answer_by};
 ghost use Rattle.reel.specs.Reel.{words_in, rest_refusal, step_at, record_at, next_place};
-ghost use Rattle.reel.specs.Shown.{shown_step};
-ghost use Rattle.reel.specs.Reader.{at_start, step_of, record_of, moved_on};
+ghost use Rattle.reel.specs.Shown.{shown_step, shown_bytes};
+ghost use Rattle.reel.specs.Reader.{at_start, step_of, record_of, moved_on, bytes_answer};
 
 use answers::Refusal;
 use std::ops::Range;
@@ -106,6 +106,20 @@ impl<'a> Reader<'a> {
         ensures { result.now ≡ record_of self.entry }
     {
         record_at(self.edition, self.reel, self.place)
+    }
+
+    // The bytes of the record at the place reached, past which the reader then is; where there is none, nothing more or the
+    // refusal, and the reader as it was.
+    #[tactic(auto, using(crate::proofs::Place::within))]
+    pub fn read(&mut self) -> Result<Option<&'a [u8]>, Refusal>
+        ensures result_value { answer_by shown_bytes None result ≡ bytes_answer self.old }
+        ensures self_after { self.new ≡ moved_on self.old }
+    {
+        let Some(record) = self.peek()? else {
+            return Ok(None);
+        };
+        self.place = record.end;
+        Ok(Some(&self.reel[record]))
     }
 
     // The reader past the record at its place; on a refusal and at the end, the reader as it was.
