@@ -109,6 +109,12 @@ module _ (n : ℕ) (reel : List ℕ) (place : ℕ) where
   pub stands_at : (start end : ℕ) → step_at n reel place ≡ accepted start end → Stands n reel place start end
   stands_at start end e = subst (Told n reel place) e told
 
+  -- it lies within its reel
+  pub within : (start end : ℕ) → accepted start end ≡ step_at n reel place → (start ≤ end) × (end ≤ length reel)
+  within start end e =
+      let t = stands_at start end (sym e) in
+      (omega (arith, t.header), t.inside)
+
 nothing-between : (place : ℕ) → 0 ≡ place - place
 nothing-between place = omega arith
 

@@ -1,7 +1,9 @@
 -- A reel reader and its walk. FORMAT, "The reel".
-use Rattle.std.specs.Prelude.{ℕ, zero, suc, Bool, true, false, List}
+use Rattle.std.specs.Prelude.{ℕ, zero, suc, Bool, true, false, List, Option, Some, None}
 use Rattle.std.specs.Borrow.{Bor}
-use Rattle.reel.specs.Reel.{Found, accepted, finished, refused, step_at, record_at}
+use Rattle.answers.specs.Answer
+use Rattle.answers.specs.Answer.{Answer}
+use Rattle.reel.specs.Reel.{Found, accepted, finished, refused, step_at, bytes_found, record_at}
 use Rattle.reel.specs.Walk.{Walk, is_record, stopped, handing}
 use Rattle.reel.specs.declared.Reader.{Reader}
 
@@ -24,6 +26,15 @@ record_of reader = record_at reader.edition reader.reel.now reader.place
 
 abbrev pub moved_on : Reader → Reader
 moved_on reader = moved_by (step_of reader) reader
+
+-- what is read at the reader's place: the bytes of the record there, nothing more, or the refusal
+abbrev pub answer_of : Found → List ℕ → Answer (Option (List ℕ))
+answer_of (accepted start end) reel = Answer.accepted (Some (bytes_found (accepted start end) reel))
+answer_of finished reel = Answer.accepted None
+answer_of (refused k) reel = Answer.refused None k
+
+abbrev pub bytes_answer : Reader → Answer (Option (List ℕ))
+bytes_answer reader = answer_of (step_of reader) reader.reel.now
 
 -- where a record stands it is handed out, and the walk goes on with the reader moved on
 abbrev pub read_onward : (Reader → Walk) → Reader → Bool → Walk

@@ -1,9 +1,16 @@
--- The number and the values for each case of the code's answer.
+-- What is found at a place, and what a reader reads there, by the code's answer.
+use Rattle.std.specs.Prelude.{ℕ, List, Option, Some, None, Result, Ok, Err}
+use Rattle.std.specs.Borrow.{Bor}
+use Rattle.std.specs.declared.ops.Range.{Range}
+use Rattle.answers.specs.declared.Refusal.{Refusal}
+use Rattle.answers.specs.Refused.{number_of}
 use Rattle.reel.specs.Reel.{Found, accepted, finished, refused}
-use Rattle.reel.specs.declared.Step.{Step}
-use Rattle.reel.specs.declared.Step.TheVariants.{Record, Finished, Refused}
 
-abbrev pub shown_step : Step → Found
-shown_step (Record start end) = accepted start end
-shown_step Finished = finished
-shown_step (Refused k) = refused k
+abbrev pub shown_step : Result (Option (Range ℕ)) Refusal → Found
+shown_step (Ok (Some r)) = accepted r.start r.end
+shown_step (Ok None) = finished
+shown_step (Err r) = refused (number_of r)
+
+abbrev pub shown_bytes : Option (Bor (List ℕ)) → Option (List ℕ)
+shown_bytes (Some bytes) = Some bytes.now
+shown_bytes None = None

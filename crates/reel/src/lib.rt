@@ -2,62 +2,55 @@
 // any edition, any bytes and any place.
 #![tactic(auto)]
 
-ghost use Rattle.std.specs.Prelude.{◌≡◌, ◌<◌, ◌^◌};
+ghost use Rattle.std.specs.Prelude.{◌≡◌, ◌<◌, ◌^◌, None};
+ghost use Rattle.answers.specs.Refused.{refusal_in, answer_by};
 ghost use Rattle.reel.specs.Reel.{words_in, rest_refusal, step_at, record_at, next_place};
-ghost use Rattle.reel.specs.Shown.{shown_step};
-ghost use Rattle.reel.specs.Reader.{at_start, step_of, record_of, moved_on};
+ghost use Rattle.reel.specs.Shown.{shown_step, shown_bytes};
+ghost use Rattle.reel.specs.Reader.{at_start, step_of, record_of, moved_on, bytes_answer};
 
-// What stands at a place: a record, nothing more, or the refusal.
-#[derive(Clone, Copy)]
-pub enum Step {
-    Record { start: usize, end: usize },
-    Finished,
-    Refused(u8),
-}
+use answers::Refusal;
+use std::ops::Range;
 
 // The length in words of the record that what is left begins with.
+#[tactic(auto, using(crate::proofs::Rest::words_small))]
 fn words_in(rest: &[u8]) -> usize
     ensures { (result ≡ words_in rest.now) × (result < 2 ^ 16) }
 {
     fields::read_field(rest, header::LENGTH_WORDS) as usize
 }
 
-// The refusal of the record that what is left begins with, of this length in words, or 0. No record is shorter than a header.
-fn rest_refusal(edition: u64, rest: &[u8], words: usize) -> u8
+// Whether the record that what is left begins with, of this length in words, is accepted. No record is shorter than a header.
+#[tactic(auto, unfolding(crate::specs::Reel::rest_refusal))]
+fn judge_rest(edition: u64, rest: &[u8], words: usize) -> Result<(), Refusal>
     requires { (words ≡ words_in rest.now) × (words < 2 ^ 16) }
-    ensures { result ≡ rest_refusal edition rest.now }
+    ensures { refusal_in result ≡ rest_refusal edition rest.now }
 {
     let header_bytes = editions::header_bytes(edition);
-    if (rest.len() < header_bytes) | (words < header_bytes / 2) {
-        return 1;
+    if rest.len() < header_bytes || words < header_bytes / 2 {
+        return Err(Refusal::TooShort);
     }
     let size = 2 * words;
     if rest.len() < size {
-        return 2;
+        return Err(Refusal::WrongLength);
     }
-    record::refusal_of(edition, &rest[..size])
+    record::judge(edition, &rest[..size])
 }
 
-// What stands at the place.
-pub fn step_at(edition: u64, reel: &[u8], place: usize) -> Step
+// What stands at the place: where a record lies in the reel, nothing more, or the refusal.
+#[tactic(auto, unfolding(crate::specs::Reel::step_at))]
+pub fn step_at(edition: u64, reel: &[u8], place: usize) -> Result<Option<Range<usize>>, Refusal>
     ensures { shown_step result ≡ step_at edition reel.now place }
 {
     if editions::is_unknown(edition) {
-        return Step::Refused(25);
+        return Err(Refusal::NoSuchEdition);
     }
     if reel.len() <= place {
-        return Step::Finished;
+        return Ok(None);
     }
     let rest = &reel[place..];
     let words = words_in(rest);
-    let refusal = rest_refusal(edition, rest, words);
-    if refusal != 0 {
-        return Step::Refused(refusal);
-    }
-    Step::Record {
-        start: place,
-        end: place + 2 * words,
-    }
+    judge_rest(edition, rest, words)?;
+    Ok(Some(place..place + 2 * words))
 }
 
 // The place past the record at a place, or the place itself where there is none.
@@ -65,20 +58,19 @@ pub fn next_place(edition: u64, reel: &[u8], place: usize) -> usize
     ensures { result ≡ next_place edition reel.now place }
 {
     match step_at(edition, reel, place) {
-        Step::Record { start: _, end } => end,
-        Step::Finished => place,
-        Step::Refused(_) => place,
+        Ok(Some(record)) => record.end,
+        Ok(None) | Err(_) => place,
     }
 }
 
 // The bytes of the record at a place, a part of the reel; empty where there is none.
+#[tactic(auto, using(crate::proofs::Place::within))]
 pub fn record_at<'a>(edition: u64, reel: &'a [u8], place: usize) -> &'a [u8]
     ensures { result.now ≡ record_at edition reel.now place }
 {
     match step_at(edition, reel, place) {
-        Step::Record { start, end } => &reel[start..end],
-        Step::Finished => &reel[0..0],
-        Step::Refused(_) => &reel[0..0],
+        Ok(Some(record)) => &reel[record],
+        Ok(None) | Err(_) => &[],
     }
 }
 
@@ -103,7 +95,7 @@ impl<'a> Reader<'a> {
     }
 
     // What stands at the place reached.
-    pub fn peek(self) -> Step
+    pub fn peek(self) -> Result<Option<Range<usize>>, Refusal>
         ensures { shown_step result ≡ step_of self.entry }
     {
         step_at(self.edition, self.reel, self.place)
@@ -116,22 +108,36 @@ impl<'a> Reader<'a> {
         record_at(self.edition, self.reel, self.place)
     }
 
+    // The bytes of the record at the place reached, past which the reader then is; where there is none, nothing more or the
+    // refusal, and the reader as it was.
+    #[tactic(auto, using(crate::proofs::Place::within))]
+    pub fn read(&mut self) -> Result<Option<&'a [u8]>, Refusal>
+        ensures result_value { answer_by shown_bytes None result ≡ bytes_answer self.old }
+        ensures self_after { self.new ≡ moved_on self.old }
+    {
+        let Some(record) = self.peek()? else {
+            return Ok(None);
+        };
+        self.place = record.end;
+        Ok(Some(&self.reel[record]))
+    }
+
     // The reader past the record at its place; on a refusal and at the end, the reader as it was.
     pub fn next(self) -> Reader<'a>
         ensures { result ≡ moved_on self.entry }
     {
         let place = next_place(self.edition, self.reel, self.place);
-        Reader {
-            edition: self.edition,
-            reel: self.reel,
-            place,
-        }
+        Reader { place, ..self }
     }
 }
 
 // What stands at the place, by a reader made there: for callers that hold a reel and a place, as C does, and the lister where its
 // walk ends.
-pub fn step_by_reader(edition: u64, reel: &[u8], place: usize) -> Step
+pub fn step_by_reader(
+    edition: u64,
+    reel: &[u8],
+    place: usize,
+) -> Result<Option<Range<usize>>, Refusal>
     ensures { shown_step result ≡ step_at edition reel.now place }
 {
     Reader {

@@ -1,7 +1,7 @@
 -- A text is judged by its length before it is put into a buffer: what the judgement says of the room, of the answer and of the
 -- buffer. Assumes nothing.
-use mathlib.Core.Path.{◌≡◌, sym, ap, ◌∙◌}
-use mathlib.Core.Bool.{Bool, true, false}
+use mathlib.Core.Path.{◌≡◌, refl, sym, ap, ◌∙◌}
+use mathlib.Core.Bool.{Bool, true, false, true≢false}
 use mathlib.Core.List.{List, [], ◌∷◌, ◌++◌}
 use Prim.Native.Nat.{ℕ, ◌+◌, ◌≤◌, ◌<◌}
 use native.Mathlib.Nat.{zero-add}
@@ -10,8 +10,11 @@ use lib.Dec.{leb, ltb}
 use lib.ListN.{length, take, drop}
 use lib.Seq.{sets-eq, length-sets, take-append_seam}
 use borrow.Author.Tests.{leb-true, leb-false, lt-ltb, le-ltb}
+use Rattle.std.specs.Prelude.{Result, Ok, Err, IsOk}
 use Rattle.answers.specs.Answer.{Answer, accepted, refused}
 use Rattle.answers.specs.Refusal.{◌when◌, first}
+use Rattle.answers.specs.Refused.{answer_in}
+use Rattle.answers.specs.declared.Refusal.{Refusal}
 use Rattle.answers.proofs.Refusals.{unless-none, unless-some, cond-none, cond-some}
 use Rattle.numbers.specs.Writing.{Room, Written}
 use Rattle.numbers.proofs.Writing.{next_place_lem}
@@ -38,15 +41,22 @@ module _ (out : List ℕ) (at : ℕ) (text : List ℕ) where
         w.buffer ∙ sets-eq text out at h ∙ sym (cond-none (refusal_at out at text) out put none),
       )
 
-  pub put_written : {answer : Answer ℕ} {next : ℕ} {after : List ℕ} → Room out at text
-      → next ≡ answer.value → answer ≡ answer_at out at text → after ≡ buffer_at out at text → Written out at text next after
-  put_written r e a b =
-      let none = not-refused r.enough in
+  -- so where there is room nothing is refused, and what is put is written
+  pub put-ok : (r : Result ℕ Refusal) → Room out at text → answer_in 0 r ≡ answer_at out at text → IsOk r
+  put-ok (Ok next) room e = refl
+  put-ok (Err r) room e =
+      let none = unless-none (refusal_at out at text) 0 (at + length text) (not-refused room.enough) in
+      absurd (true≢false (ap (λ (x : Answer ℕ). x.given) (none ∙ sym e)))
+
+  pub put_written : {r : Result ℕ Refusal} {next : ℕ} {after : List ℕ} → Room out at text
+      → r ≡ Ok next → answer_in 0 r ≡ answer_at out at text → after ≡ buffer_at out at text → Written out at text next after
+  put_written {r} {next} room e a b =
+      let none = not-refused room.enough in
+      let given : accepted next ≡ accepted (at + length text) =
+      ap (answer_in 0) (sym e) ∙ a ∙ sym (unless-none (refusal_at out at text) 0 (at + length text) none) in
       record {
-        place =
-            e ∙ ap (λ (x : Answer ℕ). x.value) (a ∙ sym (unless-none (refusal_at out at text) 0 (at + length text) none))
-            ∙ omega (arith, r.enough);
-        buffer = b ∙ cond-none (refusal_at out at text) out put none ∙ sym (sets-eq text out at r.enough);
+        place = ap (λ (x : Answer ℕ). x.value) given ∙ omega (arith, room.enough);
+        buffer = b ∙ cond-none (refusal_at out at text) out put none ∙ sym (sets-eq text out at room.enough);
       }
 
   pub too_long : length out < at + length text → (refused 0 21 ≡ answer_at out at text) × (out ≡ buffer_at out at text)

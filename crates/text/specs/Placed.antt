@@ -1,9 +1,7 @@
 -- A text put at a place of a lent buffer: the answer, and the buffer after it. FORMAT, "Refusal numbers".
 use Rattle.std.specs.Prelude.{cond, List, [], ◌∷◌, ◌++◌, ℕ, ◌+◌, eqb, ltb, length, take, drop}
-use Rattle.answers.specs.Answer.{Answer, accepted, refused, unless}
+use Rattle.answers.specs.Answer.{Answer, unless}
 use Rattle.answers.specs.Refusal.{◌when◌, first}
-use Rattle.text.specs.declared.TextAnswer.{TextAnswer}
-use Rattle.text.specs.declared.TextAnswer.TheVariants.{Next, Refused}
 
 -- 21: the buffer holds fewer bytes than the text has, from the place on
 unfoldable pub refusal_at : List ℕ → ℕ → List ℕ → ℕ
@@ -16,8 +14,3 @@ answer_at out at text = unless (refusal_at out at text) 0 (at + length text)
 -- the buffer with the text from the place on; a refusal leaves it as it was
 abbrev pub buffer_at : List ℕ → ℕ → List ℕ → List ℕ
 buffer_at out at text = cond (eqb (refusal_at out at text) 0) (take at out ++ text ++ drop (at + length text) out) out
-
--- the number and the value for each case of the code's answer
-abbrev pub shown_text : TextAnswer → Answer ℕ
-shown_text (Next place) = accepted place
-shown_text (Refused n) = refused 0 n

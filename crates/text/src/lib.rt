@@ -3,9 +3,12 @@
 #![tactic(auto)]
 
 ghost use Rattle.std.specs.Prelude.{◌≡◌, ◌+◌, leb};
+ghost use Rattle.answers.specs.Refused.{answer_in};
 ghost use Rattle.numbers.specs.Writing.{Written};
 ghost use Rattle.text.specs.Text.{column, signed_column, frequency_column, rate_column, header_line, record_line, refused_line};
-ghost use Rattle.text.specs.Placed.{shown_text, answer_at, buffer_at};
+ghost use Rattle.text.specs.Placed.{answer_at, buffer_at};
+
+use answers::Refusal;
 
 // Decimal places: six of hertz, five of a rate.
 const HERTZ_PLACES: usize = 6;
@@ -23,13 +26,6 @@ pub struct Columns {
     pub origin: u64,
     pub frequency_uhz: u64,
     pub frequency_rate_units: i64,
-}
-
-// The place behind a text that was put into a buffer, or the refusal.
-#[derive(Clone, Copy)]
-pub enum TextAnswer {
-    Next(usize),
-    Refused(u8),
 }
 
 // ## Lines, each written at a place of a buffer; a writer returns the place behind its text.
@@ -82,49 +78,35 @@ fn write_refused_line(out: &mut [u8], at: usize, number: u64) -> usize
     numbers::write_byte(out, end, b'\n')
 }
 
-// ## Texts put at a place of a buffer, or refused
+// ## Texts put at a place of a buffer, or refused; each answers the place behind its text.
 
 // Whether `count` bytes from `at` on lie within `length`: no sum is made, so none wraps.
 fn room(length: usize, at: usize, count: usize) -> bool
     ensures { result ≡ leb (at + count) length }
 {
-    if at <= length {
-        count <= length - at
-    } else {
-        false
-    }
+    at <= length && count <= length - at
 }
 
-pub fn put_text(out: &mut [u8], at: usize, text: &[u8]) -> TextAnswer
-    ensures result_value { shown_text result ≡ answer_at out.old at text.now }
+pub fn put_text(out: &mut [u8], at: usize, text: &[u8]) -> Result<usize, Refusal>
+    ensures result_value { answer_in 0 result ≡ answer_at out.old at text.now }
     ensures out_after { out.new ≡ buffer_at out.old at text.now }
 {
-    if room(out.len(), at, text.len()) {
-        TextAnswer::Next(numbers::write_text(out, at, text))
-    } else {
-        TextAnswer::Refused(21)
+    if !room(out.len(), at, text.len()) {
+        return Err(Refusal::TextTooLong);
     }
+    Ok(numbers::write_text(out, at, text))
 }
 
-// The next place, 0 beside a refusal.
-pub fn next_of(answer: TextAnswer) -> usize
-    ensures { result ≡ (shown_text answer).value }
-{
-    match answer {
-        TextAnswer::Next(place) => place,
-        TextAnswer::Refused(_) => 0,
-    }
-}
-
-pub fn put_header_line(out: &mut [u8], at: usize) -> TextAnswer
-    ensures result_value { shown_text result ≡ answer_at out.old at header_line }
+#[tactic(auto, unfolding(crate::specs::Text::header_line))]
+pub fn put_header_line(out: &mut [u8], at: usize) -> Result<usize, Refusal>
+    ensures result_value { answer_in 0 result ≡ answer_at out.old at header_line }
     ensures out_after { out.new ≡ buffer_at out.old at header_line }
 {
     put_text(out, at, b"record,first_us,origin,poca_hz,rate_hz_s\n")
 }
 
-pub fn put_record_line(out: &mut [u8], at: usize, columns: Columns) -> TextAnswer
-    ensures result_value { shown_text result ≡ answer_at out.old at (record_line columns) }
+pub fn put_record_line(out: &mut [u8], at: usize, columns: Columns) -> Result<usize, Refusal>
+    ensures result_value { answer_in 0 result ≡ answer_at out.old at (record_line columns) }
     ensures out_after { out.new ≡ buffer_at out.old at (record_line columns) }
 {
     let mut line = [0u8; LONGEST_LINE];
@@ -132,8 +114,8 @@ pub fn put_record_line(out: &mut [u8], at: usize, columns: Columns) -> TextAnswe
     put_text(out, at, &line[..length])
 }
 
-pub fn put_refused_line(out: &mut [u8], at: usize, number: u64) -> TextAnswer
-    ensures result_value { shown_text result ≡ answer_at out.old at (refused_line number) }
+pub fn put_refused_line(out: &mut [u8], at: usize, number: u64) -> Result<usize, Refusal>
+    ensures result_value { answer_in 0 result ≡ answer_at out.old at (refused_line number) }
     ensures out_after { out.new ≡ buffer_at out.old at (refused_line number) }
 {
     let mut line = [0u8; LONGEST_LINE];
