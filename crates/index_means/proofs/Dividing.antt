@@ -1,20 +1,16 @@
--- The means of some samples, as the code divides, and of none. Assumes nothing.
+-- The means of some samples, as the code divides. Assumes nothing.
 use mathlib.Core.Path.{◌≡◌}
 use Prim.Native.Nat.{ℕ, ◌≤◌, ◌<◌}
 use native.Mathlib.Nat.{pos_of_ne-zero}
 use lib.IntN.{pos}
 use lib.Ieee.{binary64, of_int, div}
-use borrow.Author.Tests.{eq-eqb, ne_eqb}
+use borrow.Author.Tests.{ne_eqb}
 use Rattle.totals.specs.declared.Total.{Total}
 use Rattle.floats.specs.Whole.{exact_limit, quotient_of}
 use Rattle.floats.proofs.Quotient.{whole-quotient}
 use Rattle.index_query.specs.Exact.{ExactTotal}
 use Rattle.index_means.specs.declared.Means.{Means}
-use Rattle.index_means.specs.Means.{no_means, means_of}
-
-pub means-none : (total : Total) (count : ℕ) → count ≡ 0 → means_of total count ≡ no_means
-unfolding means_of
-means-none total count z = rw (eq-eqb count 0 z)
+use Rattle.index_means.specs.Means.{means_of}
 
 means-some : (total : Total) (count : ℕ) → (count ≡ 0 → ⊥)
     → means_of total count ≡ record {

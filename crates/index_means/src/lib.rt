@@ -28,6 +28,7 @@ pub const NO_MEANS: Means = Means {
 };
 
 // Of so many samples with this total. Only numbers that a float holds exactly come here, so each division is rounded once.
+#[tactic(auto, unfolding(crate::specs::Means::means_of))]
 fn means_of(total: Total, count: u64) -> Means
     requires { ExactTotal total × (count ≤ exact_limit) }
     ensures { result ≡ means_of total count }

@@ -1,29 +1,10 @@
-use mathlib.Core.Path.{◌≡◌, sym, subst}
+use mathlib.Core.Path.{◌≡◌}
 use native.Mathlib.Omega.{arith}
-use lib.Dec.{T}
-use lib.IntN.{ℤ, pos}
-use lib.Ieee.{binary64, of_bits, in_float}
 use mir.Syntax.{w64}
 use mir.Val.{to_z, of_z}
 use mir.ValLaws.{to_z-of_z}
-use Rattle.floats.proofs.Quotient.{cast-exact}
-use Rattle.index_means.proofs.Dividing.{means-none, divided}
+use Rattle.index_means.proofs.Dividing.{divided}
 use Rattle.index_means.proofs.means_of.Goals as goal
-
-pub returns-then-count-eq0 : goal.returns-then-count-eq0
-unfolding of_bits
-returns-then-count-eq0 c = sym (means-none _ _ (omega (arith, c.if-count-eq0.true)))
-
-pub int_to_float-sum : goal.int_to_float-sum
-int_to_float-sum c =
-    let back : to_z w64 (of_z w64 c.args.total.sum) ≡ c.args.total.sum = to_z-of_z w64 _ (record { sfits = omega arith }) in
-    subst (λ (z : ℤ). T (in_float binary64 z)) (sym back) (cast-exact _ c.requires.0.sums)
-
-pub int_to_float-squares : goal.int_to_float-squares
-int_to_float-squares c = cast-exact (pos _) c.requires.0.squared
-
-pub int_to_float-samples : goal.int_to_float-samples
-int_to_float-samples c = cast-exact (pos _) c.requires.1
 
 pub returns : goal.returns
 returns c =
