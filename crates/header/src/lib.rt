@@ -165,8 +165,8 @@ pub const AT_SAMPLE_RATE: usize = 41;
 
 pub const AT_SYNC: usize = 42;
 
-// The parts of the table: the rows that every edition has, eight a part in the order of the words, and the own rows of each edition.
-// A row is named here alone: who reads, writes or judges it takes it from its part.
+// The parts of the table: the rows that every edition has, eight a part in the order of the words, and each edition's own.
+// A row's place is named here alone: who reads, writes or judges rows takes them from their part.
 pub struct Common1;
 
 impl Part for Common1 {
@@ -321,7 +321,7 @@ impl Part for Own1992 {
     ghost within = { lit≤ tt };
 }
 
-// The values of a part's rows go to their places in the list of values.
+// The values of a part's rows go to their places in the list of values. Why each row is named: `Part`.
 fn read_part<P: Part>(bytes: &[u8], values: &mut [u64])
     ensures { values.new ≡ placed 0 8 P.AT (rows_read P.ROWS bytes.now) values.old }
 {

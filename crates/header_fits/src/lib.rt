@@ -26,6 +26,7 @@ pub fn decimals_fit(values: [u64; FIELD_COUNT]) -> bool
 }
 
 // Whether the values of a part are ones that their rows' bits can hold, if those are not decimal, and the rest fits too.
+// Why each place is named: `Part`.
 fn fit_part<P: Part>(values: &[u64; FIELD_COUNT], rest: bool) -> bool
     ensures { result ≡ rows_fit P.ROWS P.AT values.now rest }
 {

@@ -1,4 +1,4 @@
-// Parts of a header's table: eight rows at a time, and eight values put into a header's list of values. FORMAT, "The record".
+// Parts of a header's table, eight rows each, and eight values put into a header's list of values. FORMAT, "The record".
 #![tactic(auto)]
 
 ghost use Rattle.std.specs.Prelude.{◌≡◌, ◌≤◌, ℕ, List};
@@ -8,7 +8,7 @@ ghost use Rattle.header_parts.specs.Parts.{placed};
 use fields::Field;
 
 // A part: its rows, and the place of the first one's value, from which on a header's 48 values have room for eight.
-// Its users name its eight places one by one: by `for`, `zip` or `map` a header took 360 to 600 ns to read, so 30; to write, 530 and 126.
+// Users name the eight places: by `for`, `zip` or `map` a header took 360 to 600 ns to read, so 30; to write 530, so 126.
 pub trait Part {
     const ROWS: [Field; 8];
 

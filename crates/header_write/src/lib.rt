@@ -9,7 +9,7 @@ ghost use Rattle.header.specs.Edition.{edition_of, fields_of};
 use header::{Common1, Common2, Common3, Common4, Common5, FIELD_COUNT, Own1985, Own1992};
 use header_parts::Part;
 
-// The values of a part go into its rows.
+// The values of a part go into its rows. Why each place is named: `Part`.
 fn write_part<P: Part>(bytes: &mut [u8], values: &[u64; FIELD_COUNT])
     ensures { bytes.new ≡ rows_written P.ROWS (cells P.AT 8 values.now) bytes.old }
 {

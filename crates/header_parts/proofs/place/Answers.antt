@@ -9,7 +9,6 @@ loop-k-preserved c =
     let a = c.args in
     let k = c.loop-k.k in
     let v = c.loop-k.values in
-    let before = c.loop-k.invariant in
     let next = placed-next k a.at a.part a.values.now in
     elim c.if-place-values.branch [
       | then-place-values w ↦ cc
