@@ -12,6 +12,42 @@ pub const WIDEST: usize = 56;
 
 const MOST_DIGITS: usize = 14;
 
+// A field's width in bits.
+#[derive(Clone, Copy)]
+pub struct Width {
+    pub bits: usize,
+    ghost narrow: { bits ≤ widest },
+}
+
+impl Width {
+    // One above the widest counts as the widest.
+    pub fn new(bits: usize) -> Width
+        ensures { result.bits ≡ min bits widest }
+    {
+        Width {
+            bits: bits.min(WIDEST),
+        }
+    }
+}
+
+// How many decimal digits a code has.
+#[derive(Clone, Copy)]
+struct DigitCount {
+    digits: usize,
+    ghost few: { digits ≤ most_digits },
+}
+
+impl DigitCount {
+    // More than the most count as the most.
+    fn new(digits: usize) -> DigitCount
+        ensures { result.digits ≡ min digits most_digits }
+    {
+        DigitCount {
+            digits: digits.min(MOST_DIGITS),
+        }
+    }
+}
+
 // The lowest bit of each of the 14 digits.
 const DIGIT_ONES: u64 = 0x11_1111_1111_1111;
 
@@ -49,22 +85,21 @@ fn window(bytes: &[u8], from: usize, count: usize) -> u64
 }
 
 // The field of `width` bits from bit `start` on: few enough that eight bytes hold it wherever it starts.
-fn cut_field(bytes: &[u8], start: usize, width: usize) -> u64
-    requires { width ≤ widest }
-    ensures { (result ≡ get_bits start width bytes.now) × (result < 2 ^ width) }
+fn cut_field(bytes: &[u8], start: usize, width: Width) -> u64
+    ensures { (result ≡ get_bits start width.bits bytes.now) × (result < 2 ^ width.bits) }
 {
     let from = start / 8;
     let skip = start % 8;
-    let count = (skip + width + 7) / 8;
-    let after = count * 8 - (skip + width);
-    window(bytes, from, count) / two_to(after) % two_to(width)
+    let count = (skip + width.bits + 7) / 8;
+    let after = count * 8 - (skip + width.bits);
+    window(bytes, from, count) / two_to(after) % two_to(width.bits)
 }
 
 // The field of `width` bits from bit `start` on; of one wider than the widest, its first bits.
 pub fn read_bits(bytes: &[u8], start: usize, width: usize) -> u64
     ensures { (result ≡ get_bits start (min width widest) bytes.now) × (result < 2 ^ min width widest) }
 {
-    cut_field(bytes, start, width.min(WIDEST))
+    cut_field(bytes, start, Width::new(width))
 }
 
 // Byte i, if there is one, becomes `byte`.
@@ -89,24 +124,23 @@ fn store(bytes: &mut [u8], from: usize, n: usize, x: u64)
 }
 
 // The window with its field, of which `after` bits follow, replaced.
-fn mixed(old: u64, after: usize, width: usize, value: u64) -> u64
-    requires { (width ≤ widest) × (after ≤ 7) }
-    ensures { result ≡ mix old after width value }
+fn mixed(old: u64, after: usize, width: Width, value: u64) -> u64
+    requires { after ≤ 7 }
+    ensures { result ≡ mix old after width.bits value }
 {
-    let p = two_to(width);
+    let p = two_to(width.bits);
     let t = two_to(after);
     old - old / t % p * t + value % p * t
 }
 
 // The field of `width` bits from bit `start` on becomes the lowest bits of `value`; every other bit stays.
-fn put_field(bytes: &mut [u8], start: usize, width: usize, value: u64)
-    requires { width ≤ widest }
-    ensures { bytes.new ≡ set_bits start width value bytes.old }
+fn put_field(bytes: &mut [u8], start: usize, width: Width, value: u64)
+    ensures { bytes.new ≡ set_bits start width.bits value bytes.old }
 {
     let from = start / 8;
     let skip = start % 8;
-    let count = (skip + width + 7) / 8;
-    let after = count * 8 - (skip + width);
+    let count = (skip + width.bits + 7) / 8;
+    let after = count * 8 - (skip + width.bits);
     let old = window(bytes, from, count);
     let new = mixed(old, after, width, value);
     store(bytes, from, count, new);
@@ -117,7 +151,7 @@ fn put_field(bytes: &mut [u8], start: usize, width: usize, value: u64)
 pub fn write_bits(bytes: &mut [u8], start: usize, width: usize, value: u64)
     ensures { bytes.new ≡ set_bits start (min width widest) value bytes.old }
 {
-    put_field(bytes, start, width.min(WIDEST), value);
+    put_field(bytes, start, Width::new(width), value);
 }
 
 // Whether a number has no more bits than `width`.
@@ -131,12 +165,11 @@ pub fn fits_bits(width: usize, value: u64) -> bool
 }
 
 // The number that the last `count` digits of `code` say.
-fn digits_value(count: usize, code: u64) -> u64
-    requires { count ≤ most_digits }
-    ensures { result ≡ decimal_value count code }
+fn digits_value(count: DigitCount, code: u64) -> u64
+    ensures { result ≡ decimal_value count.digits code }
 {
     let mut value = 0;
-    for k in (0..count).rev() {
+    for k in (0..count.digits).rev() {
         value = value * 10 + code / two_to(4 * k) % 16;
     }
     value
@@ -144,23 +177,21 @@ fn digits_value(count: usize, code: u64) -> u64
 
 // Whether each of the last `count` digits of `code` is at most 9, all judged at once: a digit above 9 has its bit of 8 set and that
 // of 4 or of 2 too.
-fn digits_good(count: usize, code: u64) -> bool
-    requires { count ≤ most_digits }
-    ensures { result ≡ digits count code }
+fn digits_good(count: DigitCount, code: u64) -> bool
+    ensures { result ≡ digits count.digits code }
 {
     let above = (code / 8) & ((code / 4) | (code / 2));
-    above & (DIGIT_ONES % two_to(4 * count)) == 0
+    above & (DIGIT_ONES % two_to(4 * count.digits)) == 0
 }
 
 // The code of the last `count` decimal digits of `value`.
-fn digits_code(count: usize, value: u64) -> u64
-    requires { count ≤ most_digits }
-    ensures { result ≡ coded count value }
+fn digits_code(count: DigitCount, value: u64) -> u64
+    ensures { result ≡ coded count.digits value }
 {
     let mut code = 0;
     let mut rest = value;
     let mut place = 1;
-    for _ in 0..count {
+    for _ in 0..count.digits {
         code += rest % 10 * place;
         place *= 16;
         rest /= 10;
@@ -172,21 +203,21 @@ fn digits_code(count: usize, value: u64) -> u64
 pub fn decimal_value(count: usize, code: u64) -> u64
     ensures { result ≡ decimal_value (min count most_digits) code }
 {
-    digits_value(count.min(MOST_DIGITS), code)
+    digits_value(DigitCount::new(count), code)
 }
 
 // Whether each of the last `count` digits of `code`, or of more than the most the last ones, is at most 9.
 pub fn decimal_digits(count: usize, code: u64) -> bool
     ensures { result ≡ digits (min count most_digits) code }
 {
-    digits_good(count.min(MOST_DIGITS), code)
+    digits_good(DigitCount::new(count), code)
 }
 
 // The code of the last `count` decimal digits of `value`; of more than the most, the last ones.
 pub fn decimal_code(count: usize, value: u64) -> u64
     ensures { result ≡ coded (min count most_digits) value }
 {
-    digits_code(count.min(MOST_DIGITS), value)
+    digits_code(DigitCount::new(count), value)
 }
 
 // Whether a number has no more decimal digits than `count`.

@@ -10,7 +10,7 @@ ghost use Rattle.answers.specs.Refused.{answer_in, answer_by};
 ghost use Rattle.editions.specs.Answer.{no_rate_line};
 ghost use Rattle.record.specs.Record.{header_answer};
 ghost use Rattle.samples.specs.Totals.{no_totals};
-ghost use Rattle.times.specs.Phases.{shown_phases};
+ghost use Rattle.times.specs.Phases.{both};
 ghost use Rattle.reel.specs.Shown.{shown_step};
 ghost use Rattle.index_model.specs.Opening.{no_opening};
 ghost use Rattle.index_model.specs.Second.{no_second};
@@ -25,7 +25,7 @@ use index_means::Means;
 use index_model::Opening;
 use index_query::Second;
 use std::ops::Range;
-use times::Phases;
+use times::PhasePair;
 use totals::{NO_TOTAL, Total};
 
 // What a step answers at the end of a reel: no refusal has this number.
@@ -116,15 +116,15 @@ pub struct PhasesOut {
     pub second: f64,
 }
 
-const NO_PHASES: Phases = Phases {
+const NO_PHASES: PhasePair = PhasePair {
     first: 0.0,
     second: 0.0,
 };
 
-impl From<Result<Phases, Refusal>> for PhasesOut {
-    ghost from_gives = { λ answer out. PhasesTold out (answer_by shown_phases [] answer) };
+impl From<Result<PhasePair, Refusal>> for PhasesOut {
+    ghost from_gives = { λ answer out. PhasesTold out (answer_by both [] answer) };
 
-    fn from(answer: Result<Phases, Refusal>) -> PhasesOut {
+    fn from(answer: Result<PhasePair, Refusal>) -> PhasesOut {
         let (refusal, phases) = told(answer, NO_PHASES);
         PhasesOut {
             refusal,

@@ -6,6 +6,13 @@ ghost use Rattle.std.specs.Prelude.{◌≡◌, ◌*◌, ◌≤◌, ◌<◌, pos,
 ghost use Rattle.lists.specs.Fill.{over};
 ghost use Rattle.channels.specs.Sample.{signed_of, byte_of, sample_of, channel_room, interleaved, multiplexed};
 
+// A channel, by its number.
+#[derive(Clone, Copy)]
+pub struct Channel {
+    pub number: usize,
+    ghost in_range: { (1 ≤ number) × (number ≤ 4) },
+}
+
 // A byte as a two's complement number.
 pub fn signed(byte: u8) -> i8
     ensures { result ≡ signed_of byte }
@@ -21,12 +28,11 @@ pub fn unsigned(sample: i8) -> u8
 }
 
 // The first `count` samples of one channel, out to a lent buffer; places past them keep their contents.
-fn copy_channel(stretch: &[u8], channel: usize, count: usize, out: &mut [i8])
-    requires le_channel { (1 ≤ channel) × (channel ≤ 4) }
-    requires count_in_bounds { (4 * count ≤ length stretch.now) × (count ≤ length out.old) }
-    ensures { out.new ≡ over out.old (sample_of stretch.now channel) count }
+fn copy_channel(stretch: &[u8], channel: Channel, count: usize, out: &mut [i8])
+    requires { (4 * count ≤ length stretch.now) × (count ≤ length out.old) }
+    ensures { out.new ≡ over out.old (sample_of stretch.now channel.number) count }
 {
-    let place = channel - 1;
+    let place = channel.number - 1;
     for k in 0..count {
         out[k] = signed(stretch[4 * k + place]);
     }
@@ -40,7 +46,7 @@ pub fn demultiplex(stretch: &[u8], channel: usize, out: &mut [i8])
         return;
     }
     let count = out.len().min(stretch.len() / 4);
-    copy_channel(stretch, channel, count, out);
+    copy_channel(stretch, Channel { number: channel }, count, out);
 }
 
 // Sample k of a channel, into one byte of the stretch.

@@ -7,6 +7,8 @@ ghost use Rattle.channels.specs.Sample.{sample_of};
 ghost use Rattle.totals.specs.Total.{clipped_one, totals_of, count_limit, set_count};
 ghost use Rattle.totals.specs.Running.{next_of, Room, runnings_of, total_at, channel_next};
 
+use channels::Channel;
+
 // The most samples a channel that one call takes: more than any record has.
 const COUNT_LIMIT: usize = 65_536;
 
@@ -61,21 +63,21 @@ impl Total {
     }
 }
 
-// Sample k of a channel (1 to 4).
-fn sample(stretch: &[u8], channel: usize, k: usize) -> i8
-    requires { (1 ≤ channel) × (channel ≤ 4) × (4 * k + 4 ≤ length stretch.now) }
-    ensures { result ≡ sample_of stretch.now channel k }
+// Sample k of a channel.
+fn sample(stretch: &[u8], channel: Channel, k: usize) -> i8
+    requires { 4 * k + 4 ≤ length stretch.now }
+    ensures { result ≡ sample_of stretch.now channel.number k }
 {
-    channels::signed(stretch[4 * k + (channel - 1)])
+    channels::signed(stretch[4 * k + (channel.number - 1)])
 }
 
 // The four totals, one channel's replaced: it takes its sample k.
-fn with_channel(totals: [Total; 4], stretch: &[u8], channel: usize, k: usize) -> [Total; 4]
-    requires { (1 ≤ channel) × (channel ≤ 4) × (4 * k + 4 ≤ length stretch.now) × Room (total_at totals channel) }
-    ensures { result ≡ channel_next totals stretch.now channel k }
+fn with_channel(totals: [Total; 4], stretch: &[u8], channel: Channel, k: usize) -> [Total; 4]
+    requires { (4 * k + 4 ≤ length stretch.now) × Room (total_at totals channel.number) }
+    ensures { result ≡ channel_next totals stretch.now channel.number k }
 {
     let mut next = totals;
-    let at = channel - 1;
+    let at = channel.number - 1;
     let total = next[at];
     next[at] = total.with(sample(stretch, channel, k));
     next
@@ -86,10 +88,10 @@ fn with_samples(totals: [Total; 4], stretch: &[u8], k: usize) -> [Total; 4]
     requires { (totals ≡ runnings_of stretch.now k) × (4 * k + 4 ≤ length stretch.now) × (k < count_limit) }
     ensures { result ≡ runnings_of stretch.now (k + 1) }
 {
-    let first = with_channel(totals, stretch, 1, k);
-    let second = with_channel(first, stretch, 2, k);
-    let third = with_channel(second, stretch, 3, k);
-    with_channel(third, stretch, 4, k)
+    let first = with_channel(totals, stretch, Channel { number: 1 }, k);
+    let second = with_channel(first, stretch, Channel { number: 2 }, k);
+    let third = with_channel(second, stretch, Channel { number: 3 }, k);
+    with_channel(third, stretch, Channel { number: 4 }, k)
 }
 
 // The totals of channels 1 to 4 over the first `count` samples of each. The running totals start from a least and a greatest

@@ -11,4 +11,4 @@ unfolding ones
 returns c =
     let a = c.args in
     ap (λ (p : ℕ). eqb (bit_and (above a.code) (ones most_digits % p)) 0) c.two_to.ensures.0
-    ∙ all_digits a.count a.code c.requires
+    ∙ all_digits a.count.digits a.code a.count.few

@@ -5,4 +5,4 @@ use Prim.Native.Nat.{◌-◌, ◌*◌, ◌^◌, ◌/◌}
 use Rattle.bits.proofs.digits_value.Given as goal
 
 abbrev pub invariant-loop-k : goal.invariant-loop-k
-invariant-loop-k l = l.value ≡ decimal_value (l.count - l.k) (l.code / 2 ^ (4 * l.k))
+invariant-loop-k l = l.value ≡ decimal_value (l.fn.count.digits - l.k) (l.code / 2 ^ (4 * l.k))

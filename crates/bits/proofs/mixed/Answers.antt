@@ -6,11 +6,11 @@ use Rattle.bits.proofs.mixed.Goals as goal
 use Rattle.bits.proofs.mixed.Goals.{After-two_to-t}
 
 all : (c : After-two_to-t)
-    → Mixed c.args.old c.args.after c.args.width
+    → Mixed c.args.old c.args.after c.args.width.bits
     c.args.value c.two_to-p.result c.two_to-t.result
 all c =
     let a = c.args in
-    writes.mixed a.old a.after a.width a.value c.two_to-p.result c.two_to-t.result
+    writes.mixed a.old a.after a.width.bits a.value c.two_to-p.result c.two_to-t.result
     c.ranges.old.fits (omega arith) c.two_to-p.ensures.0 c.two_to-t.ensures.0
 
 pub overflow_mul-result : goal.overflow_mul-result

@@ -7,7 +7,7 @@ use Rattle.signed.proofs.code_count.Goals as goal
 
 pub returns : goal.returns
 returns c =
-    let w = c.args.width in
-    let h : w < 64 = omega (arith, c.requires) in
+    let w = c.args.width.bits in
+    let h : w < 64 = omega (arith, c.args.width.narrow) in
     let e : 1 * 2 ^ w % 2 ^ 64 ≡ 2 ^ w = ap (λ (z : ℕ). z % 2 ^ 64) (one-mul (2 ^ w)) ∙ mod-eq_of_lt (pow-lt h) in
     (e, subst (λ (z : ℕ). 0 < z) (sym e) (pow_pos w))

@@ -1,7 +1,7 @@
 use mathlib.Core.Path.{◌≡◌, sym, ap, ◌∙◌, subst}
 use mathlib.Core.List.{List}
 use Prim.Native.Nat.{ℕ, suc, ◌<◌}
-use lib.Dec.{lit<, lit≤}
+use lib.Dec.{lit<}
 use Rattle.totals.specs.declared.Total.{Total}
 use Rattle.totals.specs.Running.{Room, runnings_of, total_at, channel_next}
 use Rattle.totals.specs.Total.{count_limit}
@@ -23,23 +23,23 @@ first s k e q = next s k 0 e q
 
 pub with_channel-first-requires : goal.with_channel-first-requires
 unfolding taken
-with_channel-first-requires c = let p = c.requires in (lit≤ tt, lit≤ tt, p.1, room _ _ 0 p.0 p.2 (lit< tt))
+with_channel-first-requires c = let p = c.requires in (p.1, room _ _ 0 p.0 p.2 (lit< tt))
 
 pub with_channel-second-requires : goal.with_channel-second-requires
 with_channel-second-requires c =
-    let p = c.requires in (lit≤ tt, lit≤ tt, p.1, room _ _ 1 (first _ _ p.0 c.with_channel-first.ensures) p.2 (lit< tt))
+    let p = c.requires in (p.1, room _ _ 1 (first _ _ p.0 c.with_channel-first.ensures) p.2 (lit< tt))
 
 pub with_channel-third-requires : goal.with_channel-third-requires
 with_channel-third-requires c =
     let p = c.requires in
     let one = first _ _ p.0 c.with_channel-first.ensures in
-    (lit≤ tt, lit≤ tt, p.1, room _ _ 2 (next _ _ 1 one c.with_channel-second.ensures) p.2 (lit< tt))
+    (p.1, room _ _ 2 (next _ _ 1 one c.with_channel-second.ensures) p.2 (lit< tt))
 
 pub with_channel-requires : goal.with_channel-requires
 with_channel-requires c =
     let p = c.requires in
     let two = next _ _ 1 (first _ _ p.0 c.with_channel-first.ensures) c.with_channel-second.ensures in
-    (lit≤ tt, lit≤ tt, p.1, room _ _ 3 (next _ _ 2 two c.with_channel-third.ensures) p.2 (lit< tt))
+    (p.1, room _ _ 3 (next _ _ 2 two c.with_channel-third.ensures) p.2 (lit< tt))
 
 pub returns : goal.returns
 returns c =
