@@ -5,12 +5,12 @@ use mathlib.Core.Bool.{cond}
 use mathlib.Core.List.{List}
 use native.Mathlib.Omega.{arith}
 use native.Mathlib.Nat.{add-sub_cancel_left}
-use lib.ListN.{length, get_or-eq_default}
+use lib.ListN.{length}
 use borrow.Author.Tests.{lt-ltb, le-ltb}
 use borrow.Rule.Slice.PartMut.{put_mid}
 use Rattle.lists.specs.Fill.{tab}
 use Rattle.lists.proofs.Fill.{Filled, tab-ext}
-use Rattle.index_model.specs.Cells.{width, cell, block_at, with_block, no_row}
+use Rattle.index_model.specs.Cells.{width, block_at, with_block, no_row}
 use Rattle.index_cells.specs.Blocks.{block_or_none, block_put}
 
 -- a list of a row's length whose cells are all filled by a rule
@@ -23,10 +23,6 @@ pub part-put : (l : List ℕ) (i : ℕ) (block : List ℕ) → put_mid (width * 
     ≡ with_block l i block
 unfolding with_block
 part-put l i block = λ t. put_mid (width * i) (add-sub_cancel_left (width * i) width t) l block
-
--- a cell past the end of the buffer
-pub past_end : (cells : List ℕ) (i j : ℕ) → length cells ≤ width * i + j → 0 ≡ cell cells i j
-past_end cells i j h = sym (get_or-eq_default cells 0 {n = width * i + j} h)
 
 -- a buffer that holds row i, and one that does not
 module _ (cells : List ℕ) (i : ℕ) where

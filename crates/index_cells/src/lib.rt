@@ -6,7 +6,7 @@ ghost use Rattle.std.specs.Prelude.{◌≡◌, cond, not, ◌&&◌, ◌+◌, ◌
 ghost use Rattle.index_model.specs.Cells.{width, cell_limit, cell, block_at, is_greatest, merge, merged, row_within, second_from};
 ghost use Rattle.index_cells.specs.Blocks.{block_or_none, block_put};
 
-use index_model::{CELL_LIMIT, CHANNEL_WIDTH, WIDTH};
+use index_model::{CHANNEL_WIDTH, WIDTH};
 
 // The cells before those of the channels: records (1 in a row that is held), records with clock origin 1, records with copy
 // error 1, and in a row its second.
@@ -27,10 +27,7 @@ pub fn read_cell(cells: &[u32], i: u64, j: usize) -> u32
         return 0;
     }
     let from = WIDTH * place;
-    if j >= cells.len() - from {
-        return 0;
-    }
-    cells[from + j]
+    cells[from..].get(j).copied().unwrap_or(0)
 }
 
 // The cells of row (or second) i of a buffer.
@@ -38,13 +35,9 @@ fn read_block(cells: &[u32], i: usize) -> [u32; WIDTH]
     requires { width * i + width ≤ length cells.now }
     ensures { result ≡ block_at cells.now i }
 {
-    let mut block = [0u32; WIDTH];
     let start = WIDTH * i;
-    let mut j: usize = 0;
-    while j < WIDTH {
-        block[j] = cells[start + j];
-        j += 1;
-    }
+    let mut block = [0; WIDTH];
+    block.copy_from_slice(&cells[start..start + WIDTH]);
     block
 }
 
@@ -56,18 +49,7 @@ pub fn block(cells: &[u32], i: u64) -> [u32; WIDTH]
     if place < cells.len() / WIDTH {
         return read_block(cells, place);
     }
-    [0u32; WIDTH]
-}
-
-fn copy_block(part: &mut [u32], block: [u32; WIDTH])
-    requires { length part.old ≡ width }
-    ensures { part.new ≡ block }
-{
-    let mut j: usize = 0;
-    while j < WIDTH {
-        part[j] = block[j];
-        j += 1;
-    }
+    [0; WIDTH]
 }
 
 // The cells of row (or second) i, replaced; nothing changes where the buffer does not hold them all.
@@ -77,8 +59,7 @@ pub fn put_block(cells: &mut [u32], i: u64, block: [u32; WIDTH])
     let place = i as usize;
     if place < cells.len() / WIDTH {
         let start = WIDTH * place;
-        let end = start + WIDTH;
-        copy_block(&mut cells[start..end], block);
+        cells[start..start + WIDTH].copy_from_slice(&block);
     }
 }
 
@@ -94,12 +75,10 @@ fn merge_cell(j: usize, a: u32, b: u32) -> u32
     ensures { result ≡ merge j a b }
 {
     if is_greatest(j) {
-        if a < b {
-            return b;
-        }
-        return a;
+        a.max(b)
+    } else {
+        a.wrapping_add(b)
     }
-    (((a as u64) + (b as u64)) % CELL_LIMIT) as u32
 }
 
 // A second's cells with a row's added.
@@ -107,10 +86,8 @@ pub fn merged_cells(second: [u32; WIDTH], row: [u32; WIDTH]) -> [u32; WIDTH]
     ensures { result ≡ merged second row }
 {
     let mut cells = second;
-    let mut j: usize = 0;
-    while j < WIDTH {
+    for j in 0..WIDTH {
         cells[j] = merge_cell(j, cells[j], row[j]);
-        j += 1;
     }
     cells
 }
@@ -119,7 +96,7 @@ pub fn merged_cells(second: [u32; WIDTH], row: [u32; WIDTH]) -> [u32; WIDTH]
 pub fn wide(x: u32) -> u64
     ensures { (result ≡ x) × (result < cell_limit) }
 {
-    x as u64
+    u64::from(x)
 }
 
 // Whether a row is held and of a second, by its cells of records and second.
@@ -143,14 +120,13 @@ fn from_rows(rows: &[u32], second: u64, count: usize) -> [u32; WIDTH]
     requires { width * count ≤ length rows.now }
     ensures { result ≡ second_from rows.now second count }
 {
-    let mut cells = [0u32; WIDTH];
-    let mut i: usize = 0;
-    while i < count {
+    let mut cells = [0; WIDTH];
+    for i in 0..count {
         if row_within(rows, i, second) {
+            // Named first: of an array, a call's result is covered only where it is new.
             let next = merged_cells(cells, read_block(rows, i));
             cells = next;
         }
-        i += 1;
     }
     cells
 }
@@ -159,6 +135,6 @@ fn from_rows(rows: &[u32], second: u64, count: usize) -> [u32; WIDTH]
 pub fn second_cells(rows: &[u32], second: u64, count: u64) -> [u32; WIDTH]
     ensures { result ≡ second_from rows.now second (min count (length rows.now / width)) }
 {
-    let held = lists::lesser(count as usize, rows.len() / WIDTH);
-    from_rows(rows, second, held)
+    let held = rows.len() / WIDTH;
+    from_rows(rows, second, held.min(count as usize))
 }
