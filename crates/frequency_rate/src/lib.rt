@@ -8,6 +8,7 @@ ghost use Rattle.frequency_rate.specs.FrequencyRate.{digits_below, frequency_rat
 use answers::Refusal;
 
 // The rate by its digits, power and sign bit.
+#[tactic(auto, using(crate::proofs::Signs::ten_bound, crate::proofs::Signs::size_bound), unfolding(crate::specs::FrequencyRate::frequency_rate_units))]
 fn frequency_rate_units(digits: u64, power: u64, sign: u64) -> i64
     requires { (digits < digits_below) × (power < 8) }
     ensures { result ≡ frequency_rate_units digits power sign }
@@ -21,6 +22,7 @@ fn frequency_rate_units(digits: u64, power: u64, sign: u64) -> i64
 
 // The frequency rate that any bytes hold, in words 26 and 27 whichever the edition: digits that are not decimal count as they
 // stand.
+#[tactic(auto, using(crate::proofs::Signs::digits_small, crate::proofs::Signs::power_small), unfolding(crate::specs::FrequencyRate::frequency_rate_of))]
 pub fn frequency_rate_of(bytes: &[u8]) -> i64
     ensures { result ≡ frequency_rate_of bytes.now }
 {

@@ -1,5 +1,5 @@
--- Where a sample stands by the tag, that a time fits a number of 64 bits, and that none is rounded: the rates of every edition
--- divide a second evenly. Assumes nothing.
+-- Where a sample stands by the tag, within which bounds its time lies, and that none is rounded: the rates of every edition divide
+-- a second evenly. Assumes nothing.
 use Prim.Native.Nat.{ℕ, suc, ◌+◌, ◌*◌, ◌-◌, ◌/◌, ◌^◌, ◌≤◌, ◌<◌}
 use mathlib.Core.Path.{◌≡◌, refl, sym, ap, subst, ◌∙◌}
 use mathlib.Core.Bool.{Bool, true, false, cond}
@@ -53,8 +53,8 @@ module _ (hz k : ℕ) (some : hz ≡ 0 → ⊥) where
 -- ## small
 
 -- the tag of any bytes
-pub tag-small : (b : List ℕ) → value_of time_tag b < 2 ^ 27
-tag-small b = value-lt time_tag b refl refl
+pub tag_small : (b : List ℕ) → value_of time_tag b < 2 ^ 27
+tag_small b = value-lt time_tag b refl refl
 
 -- at most two seconds below zero; above it at most so many microseconds and a second for each sample of a record
 abbrev pub Near : ℕ → ℤ → Type 0
@@ -77,11 +77,6 @@ near-tag hz k h = by-test (eqb hz 0) refl
 pub time-near : (tag hz k : ℕ) → k < most_samples → Near (ms_us * tag) (time_of tag hz k)
 time-near tag hz k h =
     moved_up (tagged_sample * second_us) (most_samples * second_us) (ms_us * tag) (from_tag hz k) (near-tag hz k h)
-
-pub time-fits : (tag hz k : ℕ) → tag < 2 ^ 27 → k < most_samples → mag (time_of tag hz k) < 2 ^ 63
-time-fits tag hz k p q =
-    between-mag (tagged_sample * second_us) (ms_us * tag + most_samples * second_us) (2 ^ 63) (time_of tag hz k) (lit≤ tt) (omega arith)
-    (time-near tag hz k q)
 
 -- ## not rounded
 

@@ -51,7 +51,7 @@ fn time_of(tag: u64, hz: u64, k: u64) -> i64
 }
 
 // The time of the first sample, of any bytes: the microseconds from 0 h of the record's day, below zero on the day before.
-#[tactic(auto, unfolding(crate::specs::SampleTime::sample_time))]
+#[tactic(auto, using(crate::proofs::Timed::tag_small), unfolding(crate::specs::SampleTime::sample_time))]
 pub fn first_sample_time(edition: u64, bytes: &[u8]) -> i64
     ensures { result ≡ sample_time edition bytes.now 0 }
 {
@@ -60,7 +60,11 @@ pub fn first_sample_time(edition: u64, bytes: &[u8]) -> i64
 }
 
 // The time of sample k of a record, or the refusal.
-#[tactic(auto, unfolding(crate::specs::SampleTime::time_answer, crate::specs::SampleTime::time_refusal, crate::specs::SampleTime::sample_time))]
+#[tactic(
+    auto,
+    using(crate::proofs::Timed::tag_small, record::proofs::Count::count_small),
+    unfolding(crate::specs::SampleTime::time_answer, crate::specs::SampleTime::time_refusal, crate::specs::SampleTime::sample_time)
+)]
 pub fn sample_time(edition: u64, bytes: &[u8], k: u64) -> Result<i64, Refusal>
     ensures { answer_in (pos 0) result ≡ time_answer edition bytes.now k }
 {
