@@ -1,6 +1,6 @@
 -- The answer of a call that writes a text from the start of a buffer, and the buffer after it, by the refusal. Assumes nothing.
 use Prim.Native.Nat.{ℕ, ◌≤◌}
-use mathlib.Core.Path.{◌≡◌, ap, sym, ◌∙◌}
+use mathlib.Core.Path.{◌≡◌, refl, ap, sym, ◌∙◌}
 use mathlib.Core.List.{List, ◌++◌}
 use mathlib.Core.Bool.{cond}
 use native.Mathlib.Nat.{zero-add}
@@ -9,7 +9,9 @@ use lib.Dec.{eqb}
 use lib.ListN.{length, drop}
 use lib.Seq.{sets-eq}
 use Rattle.answers.specs.Answer.{Answer, refused, unless}
-use Rattle.answers.proofs.Refusals.{then-none, then_some, unless-some, cond-some}
+use Rattle.answers.specs.declared.Refusal.{Refusal}
+use Rattle.answers.specs.Refused.{number_of}
+use Rattle.answers.proofs.Refusals.{then-ok, then-err, err-some, answer-err, cond-some}
 use Rattle.record.specs.Record.{record_refusal}
 use Rattle.text.specs.Placed.{answer_at, buffer_at}
 use Rattle.numbers.specs.Writing.{Written}
@@ -35,16 +37,18 @@ module _ (out text : List ℕ) where
   )
 
 -- 1 to 11 come before 21
-module _ (b out : List ℕ) {n : ℕ} (e : n ≡ record_refusal 1985 b) where
-  pub record-refused : (n ≡ 0 → ⊥) → (refused 0 n ≡ text_answer (line_refusal b out) (record_text b)) ×
-      (out ≡ buffer_after (line_refusal b out) out (record_text b))
+module _ (b out : List ℕ) where
+  pub record-refused : (r : Refusal) → number_of r ≡ record_refusal 1985 b
+      → (refused 0 (number_of r) ≡ text_answer (line_refusal b out) (record_text b))
+      × (out ≡ buffer_after (line_refusal b out) out (record_text b))
   unfolding line_refusal text_answer buffer_after
-  record-refused some =
-      let same : n ≡ line_refusal b out = e ∙ sym (then_some (record_refusal 1985 b) _ (λ z. some (e ∙ z))) in (
-        ap (refused 0) same ∙ unless-some (line_refusal b out) 0 (length (record_text b)) (λ z. some (same ∙ z)),
-        sym (cond-some (line_refusal b out) out (text_over (record_text b) out) (λ z. some (same ∙ z))),
+  record-refused r e =
+      let n = line_refusal b out in
+      let same : number_of r ≡ n = then-err r (record_refusal 1985 b) _ e in (
+        answer-err n 0 (length (record_text b)) r same,
+        sym (cond-some n out (text_over (record_text b) out) (err-some r n same)),
       )
 
-  pub record-accepted : n ≡ 0 → text_refusal out (record_text b) ≡ line_refusal b out
+  pub record-accepted : 0 ≡ record_refusal 1985 b → text_refusal out (record_text b) ≡ line_refusal b out
   unfolding line_refusal
-  record-accepted z = sym (then-none (record_refusal 1985 b) _ (sym e ∙ z))
+  record-accepted e = then-ok (record_refusal 1985 b) _ _ e refl

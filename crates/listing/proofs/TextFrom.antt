@@ -1,21 +1,26 @@
 -- The text of a walk from a place on, line by line: where a record stands, its line and the text from the next place on; else the
--- refusal's line, or nothing. And of a reader that is moved on: the line at its place, and the text of the reader moved on behind it, are
--- the text from its place on. Assumes nothing.
-use Prim.Native.Nat.{ℕ, ◌-◌, ◌≤◌, ◌<◌}
+-- refusal's line, or nothing. And what each answer of a reader's `read` leaves to be written. Assumes nothing.
+use Prim.Native.Nat.{ℕ, ◌-◌, ◌<◌}
 use mathlib.Core.Path.{◌≡◌, refl, ap, sym, ◌∙◌}
 use mathlib.Core.Bool.{Bool, true, false, cond}
 use mathlib.Core.List.{List, ◌++◌, append_assoc}
 use native.Mathlib.Omega.{arith}
 use lib.ListN.{length}
-use Rattle.reel.specs.Reel.{step_at, record_at, next_place}
+use denote.Ref.{Bor}
+use Rattle.std.specs.Prelude.{Option, Some, None}
+use Rattle.answers.specs.Answer
+use Rattle.reel.specs.Reel.{Found, finished, refused, bytes_found, step_at, record_at, next_place}
 use Rattle.reel.specs.Walk.{is_record, onward, walk, walk_from}
-use Rattle.reel.specs.Reader.{step_of, moved_on}
+use Rattle.reel.specs.Reader.{at_start, step_of, record_of, moved_on, bytes_answer}
+use Rattle.reel.specs.Shown.{shown_bytes}
 use Rattle.reel.specs.declared.Reader.{Reader}
-use Rattle.reel.proofs.Place.{moved, not_back, unmoved, has-moved}
+use Rattle.reel.proofs.Rest.{header-size}
+use Rattle.reel.proofs.Place.{moved}
 use Rattle.reel.proofs.Onward.{settled}
-use Rattle.reel.proofs.Reading.{at_place, moved_by_lem}
+use Rattle.reel.proofs.Reading.{at_place, moved_by_lem, read-record, read-finished, read-refused}
 use Rattle.numbers.specs.Writing.{Room, Written}
-use Rattle.numbers.proofs.Writing.{room-first, room-rest, room_as, written_both, written_as}
+use Rattle.numbers.proofs.Writing.{room-first, room-rest, room_as, written_both, written_as, nothing}
+use Rattle.text.specs.Text.{refused_line}
 use Rattle.listing.specs.Listing.{record_text, record_texts, last_text, walk_text, text_from, line_at}
 
 module _ (reel : List ℕ) where
@@ -55,61 +60,98 @@ module _ (reel : List ℕ) where
     unfolding record_texts
     text-last e = line-none e ∙ sym (text-by false e)
 
-    -- room for the text is room for its first line
-    pub room-line : {l : List ℕ} {a : ℕ} → Room l a (text_from reel place) → Room l a (line_at reel place)
-    room-line {l} {a} room = by-test (is_record (step_at 1985 reel place)) refl
-      where
-        by-test : (b : Bool) → is_record (step_at 1985 reel place) ≡ b → Room l a (line_at reel place)
-        by-test true e = room-first (text_from reel (next_place 1985 reel place)) (text-more e) room
-        by-test false e = room_as (text-last e) room
-
 -- what is left of a reader's reel
 abbrev pub left : Reader → ℕ
 left d = length d.reel.now - d.place
 
--- the text from a reader's place on, and the line of what stands there
+-- the text from a reader's place on
 abbrev pub text : Reader → List ℕ
 text d = text_from d.reel.now d.place
 
-abbrev pub line : Reader → List ℕ
-line d = line_at d.reel.now d.place
+-- A reader d of 1985 whose text has room in a buffer from a place on; where it is written there, the text x has been written from
+-- the start i of the buffer l
+pub record Going (l : List ℕ) (i : ℕ) (x : List ℕ) (d : Reader) (out : List ℕ) (at : ℕ) : Type 0 where
+  pub of-1985 : d.edition ≡ 1985
+  pub room : Room out at (text d)
+  pub rest : {next : ℕ} {after : List ℕ} → Written out at (text d) next after → Written l i x next after
 
--- a reader d of 1985 and the reader r moved on
-module _ (d r : Reader) (of-1985 : d.edition ≡ 1985) (is : r ≡ moved_on d) where
-  on : r ≡ at_place d (next_place d.edition d.reel.now d.place)
-  on = is ∙ sym (moved_by_lem d (step_of d))
+pub at-start : {l x : List ℕ} {i : ℕ} (d : Reader) (reel : Bor (List ℕ)) → d ≡ at_start 1985 reel
+    → walk_text (walk 1985 reel.now) ≡ x → Room l i x → Going l i x d l i
+at-start d reel is e room =
+    let begins = (λ i. text_from (is i).reel.now (is i).place) ∙ from_start reel.now ∙ e in
+    record {
+      of-1985 = ap (λ (y : Reader). y.edition) is;
+      room = room_as begins room;
+      rest = written_as begins;
+    }
 
-  pub next-is : r.place ≡ next_place 1985 d.reel.now d.place
-  next-is = ap (λ (x : Reader). x.place) on ∙ ap (λ (n : ℕ). next_place n d.reel.now d.place) of-1985
+module _ {l x out : List ℕ} {i at : ℕ} {d : Reader} (g : Going l i x d out at) where
+  found : step_of d ≡ step_at 1985 d.reel.now d.place
+  found = ap (λ (n : ℕ). step_at n d.reel.now d.place) g.of-1985
 
-  same-reel : r.reel.now ≡ d.reel.now
-  same-reel = ap (λ (x : Reader). x.reel.now) on
+  -- where no record stands, the text is the last line
+  last-line : (f : Found) → step_of d ≡ f → is_record f ≡ false → last_text f ≡ text d
+  last-line f e none =
+      let s = sym found ∙ e in
+      sym (ap last_text s) ∙ sym (line-none d.reel.now d.place (ap is_record s ∙ none))
+      ∙ text-last d.reel.now d.place (ap is_record s ∙ none)
 
-  pub again-1985 : r.edition ≡ 1985
-  again-1985 = ap (λ (x : Reader). x.edition) on ∙ of-1985
+  -- what `read` gave of the record, or of nothing more
+  module _ {given o : Option (Bor (List ℕ))} (e : Answer.accepted (shown_bytes given) ≡ bytes_answer d) (is : given ≡ o) where
+    answered : Answer.accepted (shown_bytes o) ≡ bytes_answer d
+    answered = sym (ap (λ (y : Option (Bor (List ℕ))). Answer.accepted (shown_bytes y)) is) ∙ e
 
-  -- it has not moved: its line is the last
-  pub all-written : r.place ≤ d.place → {l m : List ℕ} {a b : ℕ} → Written l a (line d) b m → Written l a (text d) b m
-  all-written h w =
-      let reel = d.reel.now in
-      let stays = unmoved 1985 reel d.place (omega (arith, h, next-is, not_back 1985 reel d.place)) in
-      written_as (text-last reel d.place stays) w
+  pub at-end : {given : Option (Bor (List ℕ))} → Answer.accepted (shown_bytes given) ≡ bytes_answer d → given ≡ None → Written l i x at out
+  at-end e is = g.rest (written_as (last-line finished (read-finished (step_of d) d.reel.now (answered e is)) refl) (nothing out at))
 
-  -- it has: the text is its line and that of the reader moved on, of whose reel less is left
-  module _ (h : d.place < r.place) where
+  module _ (k : ℕ) (e : Answer.refused None k ≡ bytes_answer d) where
+    refusal-line : refused_line k ≡ text d
+    refusal-line = last-line (refused k) (read-refused (step_of d) d.reel.now k e) refl
+
+    pub refusal-room : Room out at (refused_line k)
+    refusal-room = room_as refusal-line g.room
+
+    pub refusal-written : {next : ℕ} {after : List ℕ} → Written out at (refused_line k) next after → Written l i x next after
+    refusal-written w = g.rest (written_as refusal-line w)
+
+  -- where a record was read, and r is the reader behind it: the text is its line and that of r, of whose reel less is left
+  module _ {given : Option (Bor (List ℕ))} {b : Bor (List ℕ)} {r : Reader}
+      (e : Answer.accepted (shown_bytes given) ≡ bytes_answer d) (moves : r ≡ moved_on d) (is : given ≡ Some b) where
+    told : (is_record (step_of d) ≡ true) × (b.now ≡ record_of d)
+    told = read-record (step_of d) d.reel.now b.now (answered e is)
+
     stands : is_record (step_at 1985 d.reel.now d.place) ≡ true
-    stands = has-moved 1985 d.reel.now d.place (λ e. let z : ⊥ = omega (arith, e, h, next-is) in z)
+    stands = sym (ap is_record found) ∙ told.0
 
-    joined : line d ++ text r ≡ text d
-    joined = (λ i. line d ++ text_from (same-reel i) (next-is i)) ∙ text-more d.reel.now d.place stands
+    on : r ≡ at_place d (next_place d.edition d.reel.now d.place)
+    on = moves ∙ sym (moved_by_lem d (step_of d))
+
+    next-is : r.place ≡ next_place 1985 d.reel.now d.place
+    next-is = ap (λ (y : Reader). y.place) on ∙ ap (λ (n : ℕ). next_place n d.reel.now d.place) g.of-1985
+
+    same-reel : r.reel.now ≡ d.reel.now
+    same-reel = ap (λ (y : Reader). y.reel.now) on
+
+    first-line : record_text b.now ++ text r ≡ text d
+    first-line =
+        let reel = d.reel.now in
+        let bytes-are : b.now ≡ record_at 1985 reel d.place = told.1 ∙ ap (λ (f : Found). bytes_found f reel) found in
+        (λ j. record_text (bytes-are j) ++ text_from (same-reel j) (next-is j))
+        ∙ ap (λ (t : List ℕ). t ++ text_from reel (next_place 1985 reel d.place)) (sym (line-record reel d.place stands))
+        ∙ text-more reel d.place stands
 
     pub falls : left r < left d
     falls =
         let m = moved 1985 d.reel.now d.place stands in
-        omega (arith, h, next-is, m.inside, ap length same-reel)
+        omega (arith, next-is, m.header, m.inside, ap length same-reel, (header-size 1985).0)
 
-    pub room_after : {l m : List ℕ} {a b : ℕ} → Room l a (text d) → Written l a (line d) b m → Room m b (text r)
-    room_after room w = room-rest joined room w
+    pub record-room : Room out at (record_text b.now)
+    record-room = room-first (text r) first-line g.room
 
-    pub written_on : {l m o : List ℕ} {a b c : ℕ} → Written l a (line d) b m → Written m b (text r) c o → Written l a (text d) c o
-    written_on first rest = written_both joined first rest
+    pub goes-on : {next : ℕ} {after : List ℕ} → Written out at (record_text b.now) next after → Going l i x r after next
+    goes-on w =
+        record {
+          of-1985 = ap (λ (y : Reader). y.edition) on ∙ g.of-1985;
+          room = room-rest first-line g.room w;
+          rest = λ v. g.rest (written_both first-line w v);
+        }

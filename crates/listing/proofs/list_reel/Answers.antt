@@ -33,6 +33,6 @@ returns c =
     let out = c.args.out.now in
     let put = c.put_text.ensures in
     let begins = front (goal.at.returns c).After-list_whole-length in
-    let said = from_start out (listing c.args.input.now) (c.list_answer.ensures ∙ put.result_value ∙ ap (answer_at out 0) begins)
+    let said = from_start out (listing c.args.input.now) (put.result_value ∙ ap (answer_at out 0) begins)
     (put.out_after ∙ ap (buffer_at out 0) begins) in
     record { result_value = said.0; out_after = said.1 }

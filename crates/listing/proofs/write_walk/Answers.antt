@@ -1,24 +1,33 @@
--- The reader that is made is at the start of the reel. Assumes nothing.
-use Rattle.std.proofs.Common.{◌≡◌, List, ℕ, ap, ◌∙◌}
-use Rattle.std.specs.Borrow.{Bor}
-use Rattle.reel.specs.declared.Reader.{Reader}
-use Rattle.reel.specs.Reader.{at_start}
-use Rattle.reel.specs.Walk.{walk}
-use Rattle.numbers.proofs.Writing.{room_as, written_as}
-use Rattle.listing.specs.Listing.{text_from, walk_text}
-use Rattle.listing.proofs.TextFrom.{from_start}
+-- The reader begins at the start of the reel; each read hands out a record, whose line is written, or ends the text. Assumes nothing.
+use mathlib.Core.Path.{refl}
+use Rattle.answers.specs.Refused.{number_of}
+use Rattle.listing.proofs.TextFrom.{at-start, at-end, refusal-room, refusal-written, record-room, goes-on, falls}
 use Rattle.listing.proofs.write_walk.Goals as goal
 
-begins : (r : Reader) (reel : Bor (List ℕ)) → r ≡ at_start 1985 reel
-    → text_from r.reel.now r.place ≡ walk_text (walk 1985 reel.now)
-begins r reel e = (λ i. text_from (e i).reel.now (e i).place) ∙ from_start reel.now
+pub loop-record-init : goal.loop-record-init
+loop-record-init c = at-start c.new-reader.result c.args.reel c.new-reader.ensures refl c.requires
 
-pub write_from-requires : goal.write_from-requires
-write_from-requires c =
-    let r = c.new.result in (
-      ap (λ (d : Reader). d.edition) c.new.ensures,
-      room_as (begins r c.args.reel c.new.ensures) c.requires,
-    )
+pub write_record-at-requires : goal.write_record-at-requires
+write_record-at-requires c =
+    let read = c.in-Ok-Some.ensures in
+    record-room c.loop-record.invariant read.result_value read.self_after c.in-Ok-Some.field-0-is
 
-pub returns : goal.returns
-returns c = written_as (begins c.new.result c.args.reel c.new.ensures) c.write_from.ensures
+pub loop-record-smaller : goal.loop-record-smaller
+loop-record-smaller c =
+    let read = c.in-Ok-Some.ensures in
+    falls c.loop-record.invariant read.result_value read.self_after c.in-Ok-Some.field-0-is
+
+pub loop-record-preserved : goal.loop-record-preserved
+loop-record-preserved c =
+    let read = c.in-Ok-Some.ensures in
+    goes-on c.loop-record.invariant read.result_value read.self_after c.in-Ok-Some.field-0-is c.write_record-at.ensures
+
+pub returns-in-Ok-None : goal.returns-in-Ok-None
+returns-in-Ok-None c = at-end c.loop-record.invariant c.in-Ok-None.ensures.result_value c.in-Ok-None.field-0-is
+
+pub write_refusal-requires : goal.write_refusal-requires
+write_refusal-requires c = refusal-room c.loop-record.invariant (number_of c.in-Err.refusal) c.in-Err.ensures.result_value
+
+pub returns-in-Err : goal.returns-in-Err
+returns-in-Err c =
+    refusal-written c.loop-record.invariant (number_of c.in-Err.refusal) c.in-Err.ensures.result_value c.write_refusal.ensures
