@@ -72,9 +72,10 @@ fn block_right(block: &[u8], number: usize, n: usize, i: usize) -> bool
     requires { (length block.now ≡ block_bytes) × (i < n) }
     ensures { result ≡ block_right number n i block.now }
 {
-    let length = length_right(n, i, block_check::word_at(block, LENGTH_AT));
-    (block_check::word_at(block, NUMBER_AT) == number)
-        & ((block_check::word_at(block, INDEX_AT) == i) & (length & is_padded(block)))
+    block_check::word_at(block, NUMBER_AT) == number
+        && block_check::word_at(block, INDEX_AT) == i
+        && length_right(n, i, block_check::word_at(block, LENGTH_AT))
+        && is_padded(block)
 }
 
 // Whether each of the n blocks is.
@@ -97,11 +98,8 @@ fn blocks_right(blocks: &[u8]) -> bool
     ensures { result ≡ blocks_right blocks.now }
 {
     let n = blocks.len() / BLOCK_BYTES;
-    if n < 1 {
-        return false;
-    }
     let number = block_check::word_at(blocks, PAYLOAD_AT + 2);
-    (blocks.len() % BLOCK_BYTES == 0) & each_right(blocks, number, n)
+    n >= 1 && blocks.len() % BLOCK_BYTES == 0 && each_right(blocks, number, n)
 }
 
 // Whether blocks may be taken in, whatever they carry, or the refusal, 25, 27 or 28.
