@@ -43,7 +43,7 @@ fn full_or_last(n: usize, i: usize, bytes: usize) -> bool
     if i + 1 < n {
         return bytes == PAYLOAD_BYTES;
     }
-    (1 <= bytes) & (bytes <= PAYLOAD_BYTES)
+    1 <= bytes && bytes <= PAYLOAD_BYTES
 }
 
 // Whether the length of block i of n is right.
@@ -51,7 +51,7 @@ fn length_right(n: usize, i: usize, bytes: usize) -> bool
     requires { i < n }
     ensures { result ≡ length_right n i bytes }
 {
-    full_or_last(n, i, bytes) & ((i != 0) | (4 <= bytes))
+    full_or_last(n, i, bytes) && (i != 0 || 4 <= bytes)
 }
 
 // Whether a block has zeros after its last used byte.
