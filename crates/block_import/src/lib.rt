@@ -83,13 +83,10 @@ fn each_right(blocks: &[u8], number: usize, n: usize) -> bool
     requires { n ≡ whole_blocks blocks.now }
     ensures { result ≡ each_right number blocks.now n }
 {
-    for i in 0..n {
+    (0..n).all(|i| {
         let start = BLOCK_BYTES * i;
-        if !block_right(&blocks[start..start + BLOCK_BYTES], number, n, i) {
-            return false;
-        }
-    }
-    true
+        block_right(&blocks[start..start + BLOCK_BYTES], number, n, i)
+    })
 }
 
 // Whether there is a block, and no part block, and each block is right.
