@@ -1,16 +1,14 @@
 -- The parts of a block, stored in turn. Assumes nothing.
 use Prim.Native.Nat.{ℕ, ◌+◌, ◌-◌, ◌≤◌, ◌<◌, min}
 use mathlib.Core.Path.{◌≡◌, refl, ap, sym, ◌∙◌}
-use mathlib.Core.List.{List, [], ◌∷◌, ◌++◌, append-nil}
+use mathlib.Core.List.{List, [], ◌++◌, append-nil}
 use mathlib.Core.Logic.{⊎_elim}
 use native.Mathlib.Omega.{arith}
 use lib.ListN.{length, get_or, take, drop, replicate, length-append, length-take, length-drop, length-replicate, drop_of_length-le, get_or-append, get_or-replicate, get_or-eq_default}
 use lib.Seq.{take_at, drop_at, get_or-append-add, get_or-take}
 use borrow.Rule.Slice.PartMut.{put_mid, post_of}
-use Rattle.lists.specs.Fill.{tab}
 use Rattle.lists.proofs.Order.{le-or-lt}
 use Rattle.lists.proofs.Parts.{part-after}
-use Rattle.lists.proofs.Fill.{length-tab, get_or-tab}
 use Rattle.block_check.specs.Check.{block_bytes, payload_bytes, covered, check_of}
 use Rattle.block_layout.specs.Layout.{word_bytes, payload_by, body_of, layout}
 use Rattle.block_layout.proofs.Block.{payload-ext, length-body, check-front}

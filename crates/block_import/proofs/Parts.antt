@@ -1,23 +1,22 @@
 -- A block as a part of the bytes. Assumes nothing.
-use mathlib.Core.Bool.{Bool, not, cond, ◌&&◌, true, false, true≢false}
+use mathlib.Core.Bool.{Bool, not, cond, ◌&&◌, true, false}
 use Rattle.lists.specs.Fill.{tab}
 use Rattle.lists.specs.Tests.{all_to, first_not}
 use Rattle.lists.proofs.Fill.{length-tab}
-use Rattle.lists.proofs.Tests.{each_to}
-use Rattle.lists.proofs.Truth.{held, holds}
 use Prim.Native.Nat.{ℕ, zero, suc, ◌+◌, ◌-◌, ◌*◌, ◌<◌, ◌≤◌}
 use native.Mathlib.Numerals.{add-one}
-use Rattle.std.specs.List.{list_all, prefix_len, position_or_len}
+use Rattle.std.specs.List.{range_with_len, list_all, position_or_len}
 use Rattle.std.specs.Slice.Iter.{chunks_exact_rest, chunks_exact_size, chunks_exact_steps}
 use Rattle.std.proofs.lemmas.Iterator.{YieldsList}
 use Rattle.std.proofs.lemmas.Iterator.Splits.{YieldsList-from_shown_while}
+use Rattle.std.proofs.lemmas.List.FromFn.{length-range_with_len, get_or-range_with_len}
 use Rattle.std.proofs.lemmas.List.Folds.{list_all_more}
 use mathlib.Core.Path.{◌≡◌, refl, sym, ap, ◌∙◌, subst}
 use native.Mathlib.Nat.{add-zero, add-suc, suc-add, zero-add}
 use mathlib.Core.List.{List, ◌∷◌, ◌++◌}
 use native.Mathlib.Omega.{arith}
 use lib.ListN.{length, take, drop, get_or, length-append}
-use lib.Seq.{take_at, drop_at, drop-drop}
+use lib.Seq.{take_all, take_at, drop_at, drop-drop}
 use borrow.Rule.Slice.PartMut.{mid_len}
 use Rattle.block_check.specs.Check.{block_bytes, passes}
 use Rattle.block_layout.specs.Carried.{block_at, whole_blocks}
@@ -32,14 +31,6 @@ module _ (s : List ℕ) (i : ℕ) where
   pub block-length : i < whole_blocks s → length (take (block_bytes * i + block_bytes - block_bytes * i) (drop (block_bytes * i) s)) ≡ block_bytes
   block-length h = mid_len (block_bytes * i) (block_bytes * i + block_bytes) s (omega arith) ∙ (let e : block_bytes * i + block_bytes - block_bytes * i ≡ block_bytes = omega arith in e)
 
--- where one of the first n tests fails, not all hold
-pub one-fails : (test : ℕ → Bool) (n k : ℕ) → k < n → test k ≡ false → all_to test n ≡ false
-one-fails test n k h e = by-test (all_to test n) refl
-  where
-    by-test : (t : Bool) → all_to test n ≡ t → t ≡ false
-    by-test true all = absurd (true≢false (sym (holds (test k) (each_to test n k h (held (all_to test n) all))) ∙ e))
-    by-test false all = refl
-
 -- a test of each of the first entries of a list, by their places
 pub listed : (test : ℕ → Bool) (l : List ℕ) (n : ℕ) → n ≤ length l → list_all test (take n l) ≡ all_to (λ k. test (get_or l k 0)) n
 unfolding all_to
@@ -47,6 +38,20 @@ listed test l zero h = refl
 listed test l (suc n) h =
     ap (λ (m : ℕ). list_all test (take m l)) (sym (add-one n)) ∙ list_all_more test l n 0 (omega arith)
     ∙ ap (λ (t : Bool). t && test (get_or l n 0)) (listed test l n (omega arith))
+
+-- and a test at each place
+same-tests : (f g : ℕ → Bool) (n : ℕ) → ((k : ℕ) → k < n → f k ≡ g k) → all_to f n ≡ all_to g n
+unfolding all_to
+same-tests f g zero h = refl
+same-tests f g (suc n) h = λ t. same-tests f g n (λ k p. h k (omega arith)) t && h n (omega arith) t
+
+pub ranged : (test : ℕ → Bool) (n : ℕ) → list_all test (range_with_len 0 n) ≡ all_to test n
+ranged test n =
+    let l = range_with_len 0 n in
+    let size : length l ≡ n = length-range_with_len 0 n in
+    ap (list_all test) (sym (take_all n l (omega (arith, size)))) ∙ listed test l n (omega (arith, size))
+    ∙ same-tests (λ k. test (get_or l k 0)) test n
+    (λ k h. ap test (let e : get_or l k 0 ≡ k = omega (arith, get_or-range_with_len 0 n k 0 h) in e))
 
 -- ## the blocks as a list
 
@@ -76,7 +81,7 @@ one-more b s e =
 -- so `chunks_exact` yields them
 pub blocks-listed : {c : _} (s : List ℕ) → chunks_exact_rest c ≡ s → chunks_exact_size c ≡ block_bytes
     → YieldsList (chunks_exact_steps {A = ℕ}) (λ x. x.now) c (blocks_of s)
-blocks-listed {c} s rest size = 
+blocks-listed {c} s rest size =
     subst (λ (l : List ℕ). YieldsList (chunks_exact_steps {A = ℕ}) (λ x. x.now) c (blocks_of l)) rest
     (YieldsList-from_shown_while (chunks_exact_steps {A = ℕ}) (λ x. x.now) (λ t. blocks_of (chunks_exact_rest t)) (λ t. chunks_exact_size t ≡ block_bytes)
     (λ t u k h. none-whole (chunks_exact_rest t) (omega (arith, h.1.0, k)))

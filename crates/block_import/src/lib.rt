@@ -43,7 +43,7 @@ fn full_or_last(n: usize, i: usize, bytes: usize) -> bool
     if i + 1 < n {
         return bytes == PAYLOAD_BYTES;
     }
-    (1 <= bytes) & (bytes <= PAYLOAD_BYTES)
+    1 <= bytes && bytes <= PAYLOAD_BYTES
 }
 
 // Whether the length of block i of n is right.
@@ -51,7 +51,7 @@ fn length_right(n: usize, i: usize, bytes: usize) -> bool
     requires { i < n }
     ensures { result ≡ length_right n i bytes }
 {
-    full_or_last(n, i, bytes) & ((i != 0) | (4 <= bytes))
+    full_or_last(n, i, bytes) && (i != 0 || 4 <= bytes)
 }
 
 // Whether a block has zeros after its last used byte.
@@ -72,9 +72,10 @@ fn block_right(block: &[u8], number: usize, n: usize, i: usize) -> bool
     requires { (length block.now ≡ block_bytes) × (i < n) }
     ensures { result ≡ block_right number n i block.now }
 {
-    let length = length_right(n, i, block_check::word_at(block, LENGTH_AT));
-    (block_check::word_at(block, NUMBER_AT) == number)
-        & ((block_check::word_at(block, INDEX_AT) == i) & (length & is_padded(block)))
+    block_check::word_at(block, NUMBER_AT) == number
+        && block_check::word_at(block, INDEX_AT) == i
+        && length_right(n, i, block_check::word_at(block, LENGTH_AT))
+        && is_padded(block)
 }
 
 // Whether each of the n blocks is.
@@ -82,13 +83,10 @@ fn each_right(blocks: &[u8], number: usize, n: usize) -> bool
     requires { n ≡ whole_blocks blocks.now }
     ensures { result ≡ each_right number blocks.now n }
 {
-    for i in 0..n {
+    (0..n).all(|i| {
         let start = BLOCK_BYTES * i;
-        if !block_right(&blocks[start..start + BLOCK_BYTES], number, n, i) {
-            return false;
-        }
-    }
-    true
+        block_right(&blocks[start..start + BLOCK_BYTES], number, n, i)
+    })
 }
 
 // Whether there is a block, and no part block, and each block is right.
@@ -97,11 +95,8 @@ fn blocks_right(blocks: &[u8]) -> bool
     ensures { result ≡ blocks_right blocks.now }
 {
     let n = blocks.len() / BLOCK_BYTES;
-    if n < 1 {
-        return false;
-    }
     let number = block_check::word_at(blocks, PAYLOAD_AT + 2);
-    (blocks.len() % BLOCK_BYTES == 0) & each_right(blocks, number, n)
+    n >= 1 && blocks.len() % BLOCK_BYTES == 0 && each_right(blocks, number, n)
 }
 
 // Whether blocks may be taken in, whatever they carry, or the refusal, 25, 27 or 28.

@@ -1,36 +1,22 @@
-use mathlib.Core.Path.{◌≡◌, ap, sym, ◌∙◌}
-use mathlib.Core.Bool.{Bool}
-use Prim.Native.Nat.{ℕ, ◌<◌}
+use Prim.Native.Nat.{ℕ, ◌-◌, ◌*◌, ◌+◌}
 use native.Mathlib.Omega.{arith}
-use lib.Dec.{T}
-use borrow.Author.Count.{below_more}
-use Rattle.lists.proofs.Tests.{all-to}
-use Rattle.lists.proofs.Truth.{held, holds}
+use lib.ListN.{take, drop}
+use Rattle.block_check.specs.Check.{block_bytes}
+use mathlib.Core.Path.{◌≡◌, refl, ap, ◌∙◌}
+use borrow.Author.Rules.{rules}
+use borrow.Author.Tests.{tests}
+use Rattle.std.proofs.lemmas.Iterator.{YieldsList-from_range}
+use Rattle.std.proofs.lemmas.Iterator.Search.{all_from_yields_List}
 use Rattle.block_layout.specs.Carried.{block_at}
 use Rattle.block_layout.specs.Refusals.{block_right}
-use Rattle.block_import.proofs.Parts.{block-part, one-fails}
+use Rattle.block_import.proofs.Parts.{block-part, ranged}
 use Rattle.block_import.proofs.each_right.Goals as goal
-use Rattle.block_import.proofs.each_right.Goals.{After-block_right}
-
--- whether block i is right, as it is read
-seen : (c : After-block_right)
-    → c.block_right.result ≡ block_right c.args.number c.args.n c.loop-i.i (block_at c.args.blocks.now c.loop-i.i)
-seen c = c.block_right.ensures ∙ ap (block_right c.args.number c.args.n c.loop-i.i) (block-part c.args.blocks.now c.loop-i.i)
-
-pub returns-then-not-block_right : goal.returns-then-not-block_right
-returns-then-not-block_right c =
-    let a = c.args in
-    sym (one-fails (λ (k : ℕ). block_right a.number a.n k (block_at a.blocks.now k)) a.n c.loop-i.i (omega arith)
-    (sym (seen (goal.at.returns-then-not-block_right c).After-block_right) ∙ c.if-not-block_right.true))
-
-pub loop-i-preserved : goal.loop-i-preserved
-loop-i-preserved c =
-    let a = c.args in
-    below_more (λ (k : ℕ). T (block_right a.number a.n k (block_at a.blocks.now k))) c.loop-i.i c.loop-i.invariant
-    (held (block_right a.number a.n c.loop-i.i (block_at a.blocks.now c.loop-i.i))
-    (sym (seen (goal.at.loop-i-preserved c).After-block_right) ∙ c.if-not-block_right.false))
 
 pub returns : goal.returns
 returns c =
     let a = c.args in
-    sym (holds _ (all-to (λ (k : ℕ). block_right a.number a.n k (block_at a.blocks.now k)) a.n (λ k h. c.loop-i.invariant k (omega arith))))
+    let test = λ (i : ℕ). block_right a.number a.n i (block_at a.blocks.now i) in
+    all_from_yields_List test _ _ c.all.result c.all.ensures.ran
+    (YieldsList-from_range 0 a.n a.n refl (let e : a.n - 0 ≡ a.n = omega arith in e))
+    (λ x b q k. let h : (q ≡ _) × (b ≡ block_right a.number a.n x (take (block_bytes * x + block_bytes - block_bytes * x) (drop (block_bytes * x) a.blocks.now))) = search (rules, tests) in (h.0, h.1 ∙ ap (block_right a.number a.n x) (block-part a.blocks.now x)))
+    ∙ ranged test a.n

@@ -1,11 +1,11 @@
 use Prim.Native.Nat.{ℕ, ◌-◌, ◌+◌, min}
 use mathlib.Core.Bool.{Bool}
 use mathlib.Core.List.{List}
-use mathlib.Core.Path.{◌≡◌, refl, ap, sym, ◌∙◌}
+use mathlib.Core.Path.{◌≡◌, ap, sym, ◌∙◌}
 use mathlib.Core.Logic.{⊎_elim}
 use native.Mathlib.Omega.{arith}
 use lib.Dec.{eqb}
-use lib.ListN.{length, take, drop, get_or, length-drop}
+use lib.ListN.{take, drop, get_or, length-drop}
 use lib.Seq.{get_or-drop}
 use borrow.Author.Rules.{rules}
 use borrow.Author.Tests.{tests}
@@ -14,7 +14,6 @@ use Rattle.std.proofs.lemmas.Iterator.Search.{all_from_yields_List}
 use Rattle.lists.specs.Tests.{all_to}
 use Rattle.lists.proofs.Order.{le-or-lt}
 use Rattle.block_check.specs.Check.{payload_bytes}
-use Rattle.block_layout.specs.Carried.{length_in}
 use Rattle.block_layout.specs.Refusals.{padded}
 use Rattle.block_import.proofs.Parts.{listed}
 use Rattle.block_import.proofs.is_padded.Goals as goal
