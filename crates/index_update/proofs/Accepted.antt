@@ -1,20 +1,19 @@
 -- A put and a take-out by their refusals: what an accepted one may take for granted. Assumes nothing.
 use Prim.Native.Nat.{ℕ, ◌-◌, ◌≤◌}
-use mathlib.Core.Path.{◌≡◌, sym}
-use mathlib.Core.Bool.{false, not}
+use mathlib.Core.Path.{◌≡◌}
+use mathlib.Core.Bool.{not}
 use mathlib.Core.List.{[], ◌∷◌}
-use native.Mathlib.Omega.{arith}
 use lib.Dec.{eqb}
 use borrow.Author.Tests.{not-false}
 use Rattle.answers.specs.Refusal.{◌when◌, first, ◌then◌}
-use Rattle.answers.proofs.Refusals.{then-zero, none-applies, cond-none, cond-some}
+use Rattle.answers.proofs.Refusals.{then-zero, none-applies}
 use Rattle.index_model.specs.declared.Opening.{Opening}
 use Rattle.index_model.specs.Records.{Record, refusal_of, number_of, second_of}
-use Rattle.index_model.specs.Cells.{cell, row_of}
+use Rattle.index_model.specs.Cells.{cell}
 use Rattle.index_model.specs.Buffers.{Buffers}
 use Rattle.index_model.specs.Limits.{WithinLimits}
 use Rattle.index_model.specs.Opening.{opening_refusal, other_reel, is_outside, in_window}
-use Rattle.index_model.specs.Calls.{row_inserted, row_removed, is_full, insert_refusal, inserted, remove_refusal, removed}
+use Rattle.index_model.specs.Calls.{is_full, insert_refusal, remove_refusal}
 use Rattle.index_model.proofs.Limits.{in-range, within-limits}
 use Rattle.index_update.specs.Inner.{Placed}
 use Rattle.index_update.proofs.Changing.{placed}

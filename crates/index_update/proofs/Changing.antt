@@ -1,7 +1,7 @@
 -- A second left and a second joined, on cells that are read and stored as blocks. Assumes nothing.
 use Prim.Native.Nat.{ℕ, ◌+◌, ◌*◌, ◌/◌, ◌≤◌, min}
 use mathlib.Core.Path.{◌≡◌, sym, ◌∙◌}
-use mathlib.Core.Bool.{Bool, true, false, cond, not, ◌&&◌}
+use mathlib.Core.Bool.{Bool, true, cond, not, ◌&&◌}
 use mathlib.Core.List.{List}
 use native.Mathlib.Omega.{arith}
 use lib.Dec.{eqb}
@@ -12,7 +12,7 @@ use Rattle.index_model.specs.Cells.{width, block_at, with_block, merged, second_
 use Rattle.index_model.specs.Buffers.{lent}
 use Rattle.index_model.specs.Limits.{WithinLimits}
 use Rattle.index_model.specs.Opening.{in_window, window_place}
-use Rattle.index_model.specs.Calls.{leave, join}
+use Rattle.index_model.specs.Calls.{leave}
 use Rattle.index_model.proofs.Limits.{in_window_lem}
 use Rattle.index_cells.specs.Blocks.{block_or_none, block_put}
 use Rattle.index_cells.proofs.Parts.{held-block, held-put}

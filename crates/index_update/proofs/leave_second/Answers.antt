@@ -1,7 +1,7 @@
 use mathlib.Core.Path.{sym, ◌∙◌}
 use Rattle.index_model.specs.Calls.{leave}
 use Rattle.index_cells.specs.Blocks.{block_put}
-use Rattle.index_update.proofs.Changing.{second-left, none_left}
+use Rattle.index_update.proofs.Changing.{second-left}
 use Rattle.index_update.proofs.leave_second.Goals as goal
 
 pub returns-then-is_left : goal.returns-then-is_left

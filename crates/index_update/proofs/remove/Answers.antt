@@ -1,6 +1,5 @@
 use mathlib.Core.Path.{sym}
 use native.Mathlib.Omega.{arith}
-use Rattle.index_model.specs.Buffers.{lent}
 use Rattle.index_update.proofs.Accepted.{take-fits}
 use Rattle.index_update.proofs.remove.Goals as goal
 
