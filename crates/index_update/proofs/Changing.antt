@@ -1,7 +1,7 @@
 -- A second left and a second joined, on cells that are read and stored as blocks. Assumes nothing.
 use Prim.Native.Nat.{ℕ, ◌+◌, ◌*◌, ◌/◌, ◌≤◌, min}
 use mathlib.Core.Path.{◌≡◌, sym, ◌∙◌}
-use mathlib.Core.Bool.{Bool, true, false, cond, not, ◌&&◌}
+use mathlib.Core.Bool.{Bool, true, cond, not, ◌&&◌}
 use mathlib.Core.List.{List}
 use native.Mathlib.Omega.{arith}
 use lib.Dec.{eqb}
@@ -12,7 +12,7 @@ use Rattle.index_model.specs.Cells.{width, block_at, with_block, merged, second_
 use Rattle.index_model.specs.Buffers.{lent}
 use Rattle.index_model.specs.Limits.{WithinLimits}
 use Rattle.index_model.specs.Opening.{in_window, window_place}
-use Rattle.index_model.specs.Calls.{leave, join}
+use Rattle.index_model.specs.Calls.{leave}
 use Rattle.index_model.proofs.Limits.{in_window_lem}
 use Rattle.index_cells.specs.Blocks.{block_or_none, block_put}
 use Rattle.index_cells.proofs.Parts.{held-block, held-put}
@@ -44,20 +44,10 @@ module _ (o : Opening) (rows : List ℕ) (was old : ℕ) (seconds : List ℕ) wh
       (anew o.highest_number)
       ∙ sym (λ t. cond (e t) (with_block seconds (window_place o old) (anew o.highest_number)) seconds)
 
-  pub none_left : is_left ≡ false → seconds ≡ leave o rows was old seconds
-  unfolding leave
-  none_left e = sym (λ t. cond (e t) (with_block seconds (window_place o old) (anew o.highest_number)) seconds)
-
--- the second at place k
-module _ (done : Bool) (seconds : List ℕ) (k : ℕ) (row : List ℕ) where
-  pub second-joined : width * k + width ≤ length seconds → done ≡ false → block_put seconds k (merged (block_or_none seconds k) row)
-      ≡ join done seconds k row
-  unfolding join
-  second-joined h e =
+-- the second at place k, which the buffer holds
+module _ (seconds : List ℕ) (k : ℕ) (row : List ℕ) where
+  pub second-joined : width * k + width ≤ length seconds → block_put seconds k (merged (block_or_none seconds k) row)
+      ≡ with_block seconds k (merged (block_at seconds k) row)
+  second-joined h =
       sym (held-put seconds k (merged (block_or_none seconds k) row) (omega arith))
       ∙ sym (λ t. with_block seconds k (merged (held-block seconds k (omega arith) t) row))
-      ∙ sym (λ t. cond (e t) seconds (with_block seconds k (merged (block_at seconds k) row)))
-
-  pub joined-before : done ≡ true → seconds ≡ join done seconds k row
-  unfolding join
-  joined-before e = sym (λ t. cond (e t) seconds (with_block seconds k (merged (block_at seconds k) row)))

@@ -1,7 +1,7 @@
 use mathlib.Core.Path.{sym, ◌∙◌}
 use Rattle.index_model.specs.Calls.{leave}
 use Rattle.index_cells.specs.Blocks.{block_put}
-use Rattle.index_update.proofs.Changing.{second-left, none_left}
+use Rattle.index_update.proofs.Changing.{second-left}
 use Rattle.index_update.proofs.leave_second.Goals as goal
 
 pub returns-then-is_left : goal.returns-then-is_left
@@ -12,10 +12,3 @@ returns-then-is_left c =
     ∙ second-left c.args.o c.args.rows.now c.args.held w.result c.args.seconds.now c.requires
     (sym c.is_left.ensures ∙ c.if-is_left.true)
     ∙ (λ t. leave c.args.o c.args.rows.now c.args.held (w.ensures.0 t) c.args.seconds.now)
-
-pub returns-else-is_left : goal.returns-else-is_left
-returns-else-is_left c =
-    let w = c.wide-second in
-    let a = c.args in
-    none_left a.o a.rows.now a.held w.result a.seconds.now (sym c.is_left.ensures ∙ c.if-is_left.false)
-    ∙ (λ t. leave a.o a.rows.now a.held (w.ensures.0 t) a.seconds.now)
