@@ -9,4 +9,4 @@ use Rattle.index_means.proofs.means_of.Goals as goal
 pub returns : goal.returns
 returns c =
     let back : to_z w64 (of_z w64 c.args.total.sum) ≡ c.args.total.sum = to_z-of_z w64 _ (record { sfits = omega arith }) in
-    rw back (divided _ _ c.requires.0 c.requires.1 c.if-count-eq0.false)
+    rw back (divided _ _ c.requires.0 c.requires.1 (λ z. omega (arith, c.if-count-eq0.false, z)))
