@@ -13,6 +13,14 @@ pub struct Channel {
     ghost in_range: { (1 ≤ number) × (number ≤ 4) },
 }
 
+// The four channels of a record.
+pub const ALL: [Channel; 4] = [
+    Channel { number: 1 },
+    Channel { number: 2 },
+    Channel { number: 3 },
+    Channel { number: 4 },
+];
+
 // A byte as a two's complement number.
 pub fn signed(byte: u8) -> i8
     ensures { result ≡ signed_of byte }

@@ -18,6 +18,7 @@ ghost use Rattle.index_query.specs.Exact.{ExactTotal, ExactTotals};
 ghost use Rattle.index_query.specs.Shown.{shown_second};
 
 use answers::Refusal;
+use channels::Channel;
 use index_cells::{ERRORS, ORIGINS, RECORDS, SECOND};
 use index_model::{
     CHANNEL_WIDTH, CLIPPED, GREATEST, GREATEST_OFFSET, HEAD_WIDTH, LEAST, Opening, SAMPLE_OFFSET,
@@ -58,19 +59,19 @@ fn sum_from(x: u32, count: u64) -> i64
     (x as i64) - ((SAMPLE_OFFSET * count) as i64)
 }
 
-// Cell j (0 to 4) of a channel (1 to 4).
-fn channel_cell(cells: [u32; WIDTH], channel: usize, j: usize) -> u32
-    requires { (1 ≤ channel) × (channel ≤ 4) × (j < channel_width) }
-    ensures { result ≡ get_or cells (channel_cell channel j) 0 }
+// Cell j (0 to 4) of a channel.
+fn channel_cell(cells: [u32; WIDTH], channel: Channel, j: usize) -> u32
+    requires { j < channel_width }
+    ensures { result ≡ get_or cells (channel_cell channel.number j) 0 }
 {
-    cells[HEAD_WIDTH + CHANNEL_WIDTH * (channel - 1) + j]
+    cells[HEAD_WIDTH + CHANNEL_WIDTH * (channel.number - 1) + j]
 }
 
-// The total of a channel (1 to 4) from the cells of a second that has so many samples of it.
+// The total of a channel from the cells of a second that has so many samples of it.
 #[tactic(auto, unfolding(index_model::specs::Calls::total_from))]
-fn total_from(cells: [u32; WIDTH], count: u64, channel: usize) -> Total
-    requires { (count ≤ sample_limit) × (1 ≤ channel) × (channel ≤ 4) }
-    ensures { (result ≡ total_from count cells channel) × ExactTotal result }
+fn total_from(cells: [u32; WIDTH], count: u64, channel: Channel) -> Total
+    requires { count ≤ sample_limit }
+    ensures { (result ≡ total_from count cells channel.number) × ExactTotal result }
 {
     if cells[RECORDS] == 0 {
         return NO_TOTAL;
@@ -106,7 +107,7 @@ fn totals_from(cells: [u32; WIDTH], count: u64) -> [Total; 4]
     requires { count ≤ sample_limit }
     ensures { (result ≡ tab (total_from count cells) 1 4) × ExactTotals result }
 {
-    [1, 2, 3, 4].map(|channel| total_from(cells, count, channel))
+    channels::ALL.map(|channel| total_from(cells, count, channel))
 }
 
 // What the cells of a second say.
