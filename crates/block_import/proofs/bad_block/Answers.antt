@@ -14,7 +14,7 @@ use Rattle.block_check.specs.Check.{passes}
 use Rattle.block_layout.specs.Carried.{whole_blocks, block_at}
 use Rattle.block_layout.specs.Refusals.{checks_pass, first_bad}
 use Rattle.block_layout.proofs.FirstBad.{none-bad}
-use Rattle.block_import.proofs.Parts.{blocks-listed, first-listed}
+use Rattle.block_import.proofs.Blocks.{blocks-listed, first-listed}
 use Rattle.block_import.proofs.bad_block.Goals as goal
 
 -- the first bad block is one of them, unless all have their check

@@ -15,7 +15,7 @@ use Rattle.lists.specs.Tests.{all_to}
 use Rattle.lists.proofs.Order.{le-or-lt}
 use Rattle.block_check.specs.Check.{payload_bytes}
 use Rattle.block_layout.specs.Refusals.{padded}
-use Rattle.block_import.proofs.Parts.{listed}
+use Rattle.block_import.proofs.Tests.{listed}
 use Rattle.block_import.proofs.is_padded.Goals as goal
 
 -- the padding from byte x on, and that it is none where x is past the payload
