@@ -52,11 +52,11 @@ module _ (n : ℕ) (b : List ℕ) (one two three four : ℕ) where
   judged-by-count e = ap (λ (m : ℕ). record_refusal n b then first (12 when fewer m one two three four ∷ [])) e
 
   -- judged by the samples that the stretch has: it is not whole only where the record is refused
-  pub judged-by-stretch : {s : List ℕ} → s ≡ stretch_of n b
+  pub judged_by_stretch : {s : List ℕ} → s ≡ stretch_of n b
       → record_refusal n b then first (12 when fewer (length s / 4) one two three four ∷ [])
       ≡ samples_refusal n b one two three four
   unfolding samples_refusal
-  judged-by-stretch e =
+  judged_by_stretch e =
       ⊎_elim (λ none. judged-by-count (ap (λ (l : List ℕ). length l / 4) e ∙ set-count n b (accepted-inside n b none)))
       (λ some. then_some (record_refusal n b) _ some ∙ sym (then_some (record_refusal n b) _ some))
       (none_or_some (record_refusal n b))
