@@ -2,7 +2,7 @@
 // changes nothing in what is lent.
 #![tactic(auto)]
 
-ghost use Rattle.std.specs.Prelude.{◌≡◌, ◌++◌, ◌+◌, ◌*◌, ◌/◌, ◌≤◌, ◌<◌, T, length, drop};
+ghost use Rattle.std.specs.Prelude.{◌≡◌, ℕ, get_or, ◌++◌, ◌+◌, ◌*◌, ◌/◌, ◌≤◌, ◌<◌, T, IfOk, length, drop};
 ghost use Rattle.answers.specs.Refused.{refusal_in, answer_in};
 ghost use Rattle.record.specs.Record.{record_refusal};
 ghost use Rattle.block_check.specs.Check.{block_bytes};
@@ -99,10 +99,20 @@ fn blocks_right(blocks: &[u8]) -> bool
     n >= 1 && blocks.len() % BLOCK_BYTES == 0 && each_right(blocks, number, n)
 }
 
-// Whether blocks may be taken in, whatever they carry, or the refusal, 25, 27 or 28.
+// Blocks that have their checks and are laid out right.
+#[derive(Clone, Copy)]
+struct RightBlocks<'a> {
+    bytes: &'a [u8],
+    ghost checked: { T (checks_pass bytes.now) },
+    ghost laid_out: { T (blocks_right bytes.now) },
+    ghost small: { (k : ℕ) → get_or bytes.now k 0 < 256 },
+}
+
+// The blocks, where they may be taken in, whatever they carry; or the refusal, 25, 27 or 28.
 #[tactic(auto, unfolding(block_layout::specs::Refusals::blocks_refusal))]
-fn judge_blocks(edition: u64, blocks: &[u8]) -> Result<(), Refusal>
-    ensures { refusal_in result ≡ blocks_refusal edition blocks.now }
+fn judge_blocks<'a>(edition: u64, blocks: &'a [u8]) -> Result<RightBlocks<'a>, Refusal>
+    ensures refusal { refusal_in result ≡ blocks_refusal edition blocks.now }
+    ensures same { IfOk result (λ right. right.bytes.now ≡ blocks.now) }
 {
     if editions::is_unknown(edition) {
         return Err(Refusal::NoSuchEdition);
@@ -113,41 +123,40 @@ fn judge_blocks(edition: u64, blocks: &[u8]) -> Result<(), Refusal>
     if !blocks_right(blocks) {
         return Err(Refusal::WrongBlocks);
     }
-    Ok(())
+    Ok(RightBlocks { bytes: blocks })
 }
 
 // ## The record that blocks carry
 
 // Its length: every block but the last is full.
-fn carried_bytes(blocks: &[u8]) -> usize
-    requires { T (checks_pass blocks.now) × T (blocks_right blocks.now) }
-    ensures { result ≡ length (carried_of blocks.now) }
+fn carried_bytes(blocks: RightBlocks<'_>) -> usize
+    ensures { result ≡ length (carried_of blocks.entry.bytes.now) }
 {
-    let last = blocks.len() / BLOCK_BYTES - 1;
+    let last = blocks.bytes.len() / BLOCK_BYTES - 1;
     let start = BLOCK_BYTES * last;
     let end = start + BLOCK_BYTES;
-    PAYLOAD_BYTES * last + block_check::word_at(&blocks[start..end], LENGTH_AT)
+    PAYLOAD_BYTES * last + block_check::word_at(&blocks.bytes[start..end], LENGTH_AT)
 }
 
 // Whether it is accepted, or the refusal, 25 or 1 to 11: block 0's payload is its front, and no more of it is looked at but its
 // length.
-fn judge_record(edition: u64, blocks: &[u8], bytes: usize) -> Result<(), Refusal>
-    requires { T (checks_pass blocks.now) × T (blocks_right blocks.now) × (bytes ≡ length (carried_of blocks.now)) }
-    ensures { refusal_in result ≡ record_refusal edition (carried_of blocks.now) }
+fn judge_record(edition: u64, blocks: RightBlocks<'_>, bytes: usize) -> Result<(), Refusal>
+    requires { bytes ≡ length (carried_of blocks.bytes.now) }
+    ensures { refusal_in result ≡ record_refusal edition (carried_of blocks.entry.bytes.now) }
 {
-    let first = &blocks[..BLOCK_BYTES];
+    let first = &blocks.bytes[..BLOCK_BYTES];
     let end = PAYLOAD_AT + block_check::word_at(first, LENGTH_AT);
     record::judge_front(edition, &first[PAYLOAD_AT..end], bytes)
 }
 
 // The payloads of all blocks, one after the other, into the front of a lent buffer.
-fn store_payloads(out: &mut [u8], blocks: &[u8])
-    requires { T (checks_pass blocks.now) × T (blocks_right blocks.now) × (length (carried_of blocks.now) ≤ length out.old) }
-    ensures { out.new ≡ carried_of blocks.now ++ drop (length (carried_of blocks.now)) out.old }
+fn store_payloads(out: &mut [u8], blocks: RightBlocks<'_>)
+    requires { length (carried_of blocks.bytes.now) ≤ length out.old }
+    ensures { out.new ≡ carried_of blocks.entry.bytes.now ++ drop (length (carried_of blocks.entry.bytes.now)) out.old }
 {
-    for i in 0..blocks.len() / BLOCK_BYTES {
+    for i in 0..blocks.bytes.len() / BLOCK_BYTES {
         let start = BLOCK_BYTES * i;
-        let block = &blocks[start..start + BLOCK_BYTES];
+        let block = &blocks.bytes[start..start + BLOCK_BYTES];
         let bytes = block_check::word_at(block, LENGTH_AT);
         let from = PAYLOAD_BYTES * i;
         out[from..from + bytes].copy_from_slice(&block[PAYLOAD_AT..PAYLOAD_AT + bytes]);
@@ -161,12 +170,12 @@ pub fn import_record(edition: u64, blocks: &[u8], out: &mut [u8]) -> Result<usiz
     ensures result_value { answer_in 0 result ≡ length_answer (import_refusal edition blocks.now (length out.old)) (carried_of blocks.now) }
     ensures out_after { out.new ≡ buffer_after (import_refusal edition blocks.now (length out.old)) (carried_of blocks.now) out.old }
 {
-    judge_blocks(edition, blocks)?;
-    let bytes = carried_bytes(blocks);
-    judge_record(edition, blocks, bytes)?;
+    let right = judge_blocks(edition, blocks)?;
+    let bytes = carried_bytes(right);
+    judge_record(edition, right, bytes)?;
     if out.len() < bytes {
         return Err(Refusal::TextTooLong);
     }
-    store_payloads(out, blocks);
+    store_payloads(out, right);
     Ok(bytes)
 }

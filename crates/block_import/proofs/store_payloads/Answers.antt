@@ -22,21 +22,21 @@ record Known (s : List ℕ) (i bytes : ℕ) : Type 0 where
   before : length (carried s i) ≡ payload_bytes * i
   payload : length (payload_of (block_at s i)) ≡ bytes
 
-known : (w : After-word_at-bytes) → Known w.args.blocks.now w.loop-i.i w.word_at-bytes.result
+known : (w : After-word_at-bytes) → Known w.args.blocks.bytes.now w.loop-i.i w.word_at-bytes.result
 known w =
-    let s = w.args.blocks.now in
+    let s = w.args.blocks.bytes.now in
     let i = w.loop-i.i in
     let h : i < whole_blocks s = omega arith in
-    let small : (j : ℕ) → get_or s j 0 < 256 = λ j. omega (arith, w.type_inv.blocks j) in
-    let inside = payload-inside s small w.requires.0 w.requires.1 i h in
+    let small : (j : ℕ) → get_or s j 0 < 256 = w.args.blocks.small in
+    let inside = payload-inside s small w.args.blocks.checked w.args.blocks.laid_out i h in
     let e = w.word_at-bytes.ensures.0 ∙ ap length_in (block-part s i) in
     record {
       read = e;
       most = omega (arith, e, inside.0);
       inside = omega (arith, e, inside.1);
-      before = length-carried s small w.requires.0 w.requires.1 i h;
+      before = length-carried s small w.args.blocks.checked w.args.blocks.laid_out i h;
       payload =
-          length-payload (block_at s i) (length_at s i h) (right-at s small w.requires.0 w.requires.1 i h)
+          length-payload (block_at s i) (length_at s i h) (right-at s small w.args.blocks.checked w.args.blocks.laid_out i h)
           ∙ sym e;
     }
 
@@ -66,9 +66,9 @@ slice_bounds-copy_from_slice-end c = omega (arith, (known (goal.at.slice_bounds-
 
 pub slice_bounds-copy_from_slice-end-in-loop-i : goal.slice_bounds-copy_from_slice-end-in-loop-i
 slice_bounds-copy_from_slice-end-in-loop-i c =
-    omega (arith, (known (goal.at.slice_bounds-copy_from_slice-end-in-loop-i c).After-word_at-bytes).most, block-length c.args.blocks.now c.loop-i.i (omega arith))
+    omega (arith, (known (goal.at.slice_bounds-copy_from_slice-end-in-loop-i c).After-word_at-bytes).most, block-length c.args.blocks.bytes.now c.loop-i.i (omega arith))
 
 pub loop-i-preserved : goal.loop-i-preserved
 loop-i-preserved c =
-    more c.args.blocks.now c.loop-i.out c.args.out.now c.copy_from_slice.new.self c.loop-i.i c.word_at-bytes.result
+    more c.args.blocks.bytes.now c.loop-i.out c.args.out.now c.copy_from_slice.new.self c.loop-i.i c.word_at-bytes.result
     (known (goal.at.loop-i-preserved c).After-word_at-bytes) c.loop-i.invariant c.copy_from_slice.ensures.after

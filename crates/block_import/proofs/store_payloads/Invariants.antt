@@ -5,4 +5,4 @@ use Rattle.block_layout.specs.Carried.{carried}
 use Rattle.block_import.proofs.store_payloads.Given as goal
 
 abbrev pub invariant-loop-i : goal.invariant-loop-i
-invariant-loop-i l = l.out ≡ carried l.blocks l.i ++ drop (length (carried l.blocks l.i)) l.initial.out
+invariant-loop-i l = l.out ≡ carried l.fn.blocks.bytes.now l.i ++ drop (length (carried l.fn.blocks.bytes.now l.i)) l.initial.out
