@@ -1,10 +1,13 @@
 -- What a refusal of 0 says: the record's stretch lies within it, and each buffer holds its samples. Assumes nothing.
 use Prim.Native.Nat.{ℕ, ◌+◌, ◌*◌, ◌/◌, ◌≤◌}
-use mathlib.Core.Path.{◌≡◌, ap, sym, ◌∙◌}
+use mathlib.Core.Path.{◌≡◌, refl, ap, sym, ◌∙◌}
+use mathlib.Core.Bool.{Bool, true, false, ◌||◌}
 use mathlib.Core.List.{List, [], ◌∷◌}
 use mathlib.Core.Logic.{⊎_elim}
 use native.Mathlib.Omega.{arith}
+use lib.Dec.{ltb}
 use lib.ListN.{length}
+use Rattle.std.specs.List.{list_any}
 use borrow.Author.Tests.{ltb-false}
 use Rattle.lists.proofs.Truth.{or-false}
 use Rattle.header.specs.Edition.{header_bytes}
@@ -45,15 +48,30 @@ module _ (n : ℕ) (b : List ℕ) (one two three four : ℕ) where
         fourth = ltb-false four m h.1;
       }
 
+  abbrev lengths : List ℕ
+  lengths = one ∷ two ∷ three ∷ four ∷ []
+
+  each-length : (a b c d : Bool) → a || (b || (c || (d || false))) ≡ a || (b || (c || d))
+  each-length true b c d = refl
+  each-length false true c d = refl
+  each-length false false true d = refl
+  each-length false false false true = refl
+  each-length false false false false = refl
+
+  one-fewer : (m : ℕ) → list_any (λ k. ltb k m) lengths ≡ fewer m one two three four
+  one-fewer m = each-length (ltb one m) (ltb two m) (ltb three m) (ltb four m)
+
   -- judged by a count that is the record's
   pub judged-by-count : {m : ℕ} → m ≡ sample_count n b
-      → record_refusal n b then first (12 when fewer m one two three four ∷ []) ≡ samples_refusal n b one two three four
+      → record_refusal n b then first (12 when list_any (λ k. ltb k m) lengths ∷ []) ≡ samples_refusal n b one two three four
   unfolding samples_refusal
-  judged-by-count e = ap (λ (m : ℕ). record_refusal n b then first (12 when fewer m one two three four ∷ [])) e
+  judged-by-count {m} e =
+      (λ i. record_refusal n b then first (12 when one-fewer m i ∷ []))
+      ∙ ap (λ (m : ℕ). record_refusal n b then first (12 when fewer m one two three four ∷ [])) e
 
   -- judged by the samples that the stretch has: it is not whole only where the record is refused
   pub judged_by_stretch : {s : List ℕ} → s ≡ stretch_of n b
-      → record_refusal n b then first (12 when fewer (length s / 4) one two three four ∷ [])
+      → record_refusal n b then first (12 when list_any (λ k. ltb k (length s / 4)) lengths ∷ [])
       ≡ samples_refusal n b one two three four
   unfolding samples_refusal
   judged_by_stretch e =

@@ -2,31 +2,31 @@
 // function here takes any bytes.
 #![tactic(auto)]
 
-ghost use Rattle.std.specs.Prelude.{◌≡◌, [], ◌∷◌, ◌≤◌, length};
+ghost use Rattle.std.specs.Prelude.{◌≡◌, [], ◌∷◌, ltb, length};
+ghost use Rattle.std.specs.List.{list_any};
 ghost use Rattle.answers.specs.Refusal.{◌when◌, first, ◌then◌};
 ghost use Rattle.answers.specs.Refused.{refusal_in, answer_in};
 ghost use Rattle.record.specs.Record.{record_refusal};
-ghost use Rattle.samples.specs.InOut.{fewer, samples_refusal, channel_after, record_after};
+ghost use Rattle.samples.specs.InOut.{samples_refusal, channel_after, record_after};
 ghost use Rattle.samples.specs.Totals.{no_totals, totals_answer};
 
 use answers::Refusal;
 use totals::Total;
 
-// Whether a record of `count` samples a channel and four channel buffers of these lengths are accepted, or the refusal, 25, 1 to
-// 11 or 12.
-fn judge(
-    edition: u64,
-    bytes: &[u8],
-    count: usize,
-    one: usize,
-    two: usize,
-    three: usize,
-    four: usize,
-) -> Result<(), Refusal>
-    ensures { refusal_in result ≡ record_refusal edition bytes.now then first (12 when fewer count one two three four ∷ []) }
+// Whether one of these lengths is less than a count.
+fn any_fewer(lengths: [usize; 4], count: usize) -> bool
+    ensures { result ≡ list_any (λ n. ltb n count) lengths }
+{
+    lengths.iter().any(|length| *length < count)
+}
+
+// Whether a record of `count` samples a channel and channel buffers of these lengths are accepted, or the refusal, 25, 1 to 11 or
+// 12.
+fn judge(edition: u64, bytes: &[u8], count: usize, lengths: [usize; 4]) -> Result<(), Refusal>
+    ensures { refusal_in result ≡ record_refusal edition bytes.now then first (12 when list_any (λ n. ltb n count) lengths ∷ []) }
 {
     record::judge(edition, bytes)?;
-    if one < count || two < count || three < count || four < count {
+    if any_fewer(lengths, count) {
         return Err(Refusal::NoSuchSample);
     }
     Ok(())
@@ -50,15 +50,8 @@ pub fn read_samples(
     ensures four_after { four.new ≡ channel_after (refusal_in result) edition bytes.now 4 four.old }
 {
     let stretch = record::sample_stretch(edition, bytes);
-    judge(
-        edition,
-        bytes,
-        stretch.len() / 4,
-        one.len(),
-        two.len(),
-        three.len(),
-        four.len(),
-    )?;
+    let lengths = [one.len(), two.len(), three.len(), four.len()];
+    judge(edition, bytes, stretch.len() / 4, lengths)?;
     channels::demultiplex(stretch, 1, one);
     channels::demultiplex(stretch, 2, two);
     channels::demultiplex(stretch, 3, three);
@@ -80,15 +73,8 @@ pub fn write_samples(
     ensures bytes_after { bytes.new ≡ record_after (refusal_in result) edition bytes.old one.now two.now three.now four.now }
 {
     let count = record::sample_count(edition, bytes);
-    judge(
-        edition,
-        bytes,
-        count,
-        one.len(),
-        two.len(),
-        three.len(),
-        four.len(),
-    )?;
+    let lengths = [one.len(), two.len(), three.len(), four.len()];
+    judge(edition, bytes, count, lengths)?;
     let start = editions::header_bytes(edition);
     let end = start + 4 * count;
     channels::multiplex(&mut bytes[start..end], one, two, three, four);

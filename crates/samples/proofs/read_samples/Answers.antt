@@ -1,7 +1,6 @@
 use mathlib.Core.Path.{refl, ◌∙◌}
-use Rattle.answers.proofs.Refusals.{err-some}
 use Rattle.samples.proofs.Judged.{room, judged_by_stretch}
-use Rattle.samples.proofs.Part.{buffer-kept, buffer-filled}
+use Rattle.samples.proofs.Part.{buffer-filled}
 use Rattle.samples.proofs.read_samples.Goals as goal
 
 pub returns : goal.returns

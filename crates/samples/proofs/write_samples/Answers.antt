@@ -1,8 +1,7 @@
 use mathlib.Core.Path.{refl, ◌∙◌}
 use native.Mathlib.Omega.{arith}
-use Rattle.answers.proofs.Refusals.{numbered-above}
 use Rattle.samples.proofs.Judged.{room, judged-by-count}
-use Rattle.samples.proofs.Part.{record-kept, record-filled}
+use Rattle.samples.proofs.Part.{record-filled}
 use Rattle.samples.proofs.write_samples.Goals as goal
 
 pub slice_bounds-multiplex-end : goal.slice_bounds-multiplex-end
