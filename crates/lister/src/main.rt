@@ -2,47 +2,28 @@
 // fails is not taken for the end of the tape: then a message goes to standard error, and no listing is written.
 #![tactic(auto)]
 
-ghost use Rattle.lister.specs.Input.{Within};
+ghost use Rattle.std.specs.Prelude.{◌≤◌, length, IfOk};
 
+use std::io;
 use std::io::{Read, Stdin};
 
 // One byte past the longest input is enough to know that an input is too long.
 const INPUT_BYTES: usize = listing::LONGEST_INPUT + 1;
 
-// How many bytes were read to the start of a buffer, or that a read failed.
-#[derive(Clone, Copy)]
-enum Input {
-    Bytes(usize),
-    Failed,
-}
-
-// One read: it may give a part of what is there, and gives no byte at the end of the input.
-fn read_part(mut from: Stdin, part: &mut [u8]) -> Input
-    ensures { Within result part.new }
+// Reads until no byte comes, a read fails or the buffer is full. A read may give a part of what is there, and gives no byte at the
+// end of the input.
+fn read_input(mut from: Stdin, buffer: &mut [u8]) -> io::Result<usize>
+    ensures { IfOk result (λ n. n ≤ length buffer.new) }
 {
-    match from.read(part) {
-        Ok(more) => Input::Bytes(more),
-        Err(_) => Input::Failed,
-    }
-}
-
-// Reads until no byte comes, a read fails or the buffer is full.
-fn read_input(from: Stdin, buffer: &mut [u8]) -> Input
-    ensures { Within result buffer.new }
-{
-    let mut done: usize = 0;
+    let mut done = 0;
     while done < buffer.len() {
-        match read_part(from, &mut buffer[done..]) {
-            Input::Bytes(more) => {
-                if more == 0 {
-                    return Input::Bytes(done);
-                }
-                done += more;
-            }
-            Input::Failed => return Input::Failed,
+        let more = from.read(&mut buffer[done..])?;
+        if more == 0 {
+            break;
         }
+        done += more;
     }
-    Input::Bytes(done)
+    Ok(done)
 }
 
 // Where standard error cannot be written either, nothing is said.
@@ -66,7 +47,7 @@ fn list(rt: &HostRuntime, input: &[u8]) {
 fn main(rt: HostRuntime) {
     let mut buffer = [0u8; INPUT_BYTES];
     match read_input(rt.stdin(), &mut buffer) {
-        Input::Bytes(n) => list(&rt, &buffer[..n]),
-        Input::Failed => complain(&rt, b"lister: standard input cannot be read\n"),
+        Ok(n) => list(&rt, &buffer[..n]),
+        Err(_) => complain(&rt, b"lister: standard input cannot be read\n"),
     }
 }

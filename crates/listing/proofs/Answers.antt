@@ -1,6 +1,6 @@
 -- The answer of a call that writes a text from the start of a buffer, and the buffer after it, by the refusal. Assumes nothing.
 use Prim.Native.Nat.{ℕ, ◌≤◌}
-use mathlib.Core.Path.{◌≡◌, refl, ap, sym, ◌∙◌}
+use mathlib.Core.Path.{◌≡◌, refl, ap, ◌∙◌}
 use mathlib.Core.List.{List, ◌++◌}
 use mathlib.Core.Bool.{cond}
 use native.Mathlib.Nat.{zero-add}
@@ -8,10 +8,8 @@ use native.Mathlib.Omega.{arith}
 use lib.Dec.{eqb}
 use lib.ListN.{length, drop}
 use lib.Seq.{sets-eq}
-use Rattle.answers.specs.Answer.{Answer, refused, unless}
-use Rattle.answers.specs.declared.Refusal.{Refusal}
-use Rattle.answers.specs.Refused.{number_of}
-use Rattle.answers.proofs.Refusals.{then-ok, then-err, err-some, answer-err, cond-some}
+use Rattle.answers.specs.Answer.{Answer, unless}
+use Rattle.answers.proofs.Refusals.{then-ok}
 use Rattle.record.specs.Record.{record_refusal}
 use Rattle.text.specs.Placed.{answer_at, buffer_at}
 use Rattle.numbers.specs.Writing.{Written}
@@ -38,17 +36,6 @@ module _ (out text : List ℕ) where
 
 -- 1 to 11 come before 21
 module _ (b out : List ℕ) where
-  pub record-refused : (r : Refusal) → number_of r ≡ record_refusal 1985 b
-      → (refused 0 (number_of r) ≡ text_answer (line_refusal b out) (record_text b))
-      × (out ≡ buffer_after (line_refusal b out) out (record_text b))
-  unfolding line_refusal text_answer buffer_after
-  record-refused r e =
-      let n = line_refusal b out in
-      let same : number_of r ≡ n = then-err r (record_refusal 1985 b) _ e in (
-        answer-err n 0 (length (record_text b)) r same,
-        sym (cond-some n out (text_over (record_text b) out) (err-some r n same)),
-      )
-
   pub record-accepted : 0 ≡ record_refusal 1985 b → text_refusal out (record_text b) ≡ line_refusal b out
   unfolding line_refusal
   record-accepted e = then-ok (record_refusal 1985 b) _ _ e refl

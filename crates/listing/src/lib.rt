@@ -94,14 +94,7 @@ pub fn list_reel(input: &[u8], out: &mut [u8]) -> Result<usize, Refusal>
 }
 
 // The line of one record, from the start of the buffer.
-#[tactic(
-    auto,
-    unfolding(
-        crate::specs::Listing::line_refusal,
-        crate::specs::Listing::text_answer,
-        crate::specs::Listing::buffer_after
-    )
-)]
+#[tactic(auto, unfolding(crate::specs::Listing::line_refusal, crate::specs::Listing::text_answer, crate::specs::Listing::buffer_after))]
 pub fn record_line(bytes: &[u8], out: &mut [u8]) -> Result<usize, Refusal>
     ensures result_value { answer_in 0 result ≡ line_answer bytes.now out.old }
     ensures out_after { out.new ≡ line_after bytes.now out.old }

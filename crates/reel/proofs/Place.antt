@@ -115,9 +115,6 @@ module _ (n : ℕ) (reel : List ℕ) (place : ℕ) where
       let t = stands_at start end (sym e) in
       (omega (arith, t.header), t.inside)
 
-nothing-between : (place : ℕ) → 0 ≡ place - place
-nothing-between place = omega arith
-
 -- by what stands there
 module _ (n : ℕ) (reel : List ℕ) (place : ℕ) where
   found-split : (f : Found) → Told n reel place f → bytes_found f reel ++ drop (place_after f place) reel ≡ drop place reel
@@ -160,38 +157,3 @@ module _ (n : ℕ) (reel : List ℕ) (place : ℕ) where
 
   pub empty : is_record (step_at n reel place) ≡ false → record_at n reel place ≡ []
   empty e = (found_none (step_at n reel place) e).1
-
-  -- the record is what lies between the place and the next
-  found_part : (f : Found) → Told n reel place f → bytes_found f reel ≡ take (place_after f place - place) (drop place reel)
-  found_part (accepted start end) t = ap (λ (k : ℕ). take (end - k) (drop k reel)) t.here
-  found_part finished t = ap (λ (k : ℕ). take k (drop place reel)) (nothing-between place)
-  found_part (refused k) t = ap (λ (m : ℕ). take m (drop place reel)) (nothing-between place)
-
-  pub part : record_at n reel place ≡ take (next_place n reel place - place) (drop place reel)
-  part = found_part (step_at n reel place) (told n reel place)
-
-  -- a step never goes back, so a place that is not past the first is the same
-  found-not-back : (f : Found) → Told n reel place f → place ≤ place_after f place
-  found-not-back (accepted start end) t = omega (arith, t.here, t.header)
-  found-not-back finished t = omega arith
-  found-not-back (refused k) t = omega arith
-
-  pub not_back : place ≤ next_place n reel place
-  not_back = found-not-back (step_at n reel place) (told n reel place)
-
-  -- the place moves where a record stands, and nowhere else
-  pub unmoved : next_place n reel place ≡ place → is_record (step_at n reel place) ≡ false
-  unmoved e = by-test (is_record (step_at n reel place)) refl
-    where
-      by-test : (b : Bool) → is_record (step_at n reel place) ≡ b → b ≡ false
-      by-test true r =
-          let m = moved r in
-          absurd (let z : ⊥ = omega (arith, e, m.header, (header-size n).0) in z)
-      by-test false r = refl
-
-  pub has-moved : (next_place n reel place ≡ place → ⊥) → is_record (step_at n reel place) ≡ true
-  has-moved e = by-test (is_record (step_at n reel place)) refl
-    where
-      by-test : (b : Bool) → is_record (step_at n reel place) ≡ b → b ≡ true
-      by-test true r = refl
-      by-test false r = absurd (e (stays r))

@@ -115,11 +115,13 @@ impl<'a> Reader<'a> {
         ensures result_value { answer_by shown_bytes None result ≡ bytes_answer self.old }
         ensures self_after { self.new ≡ moved_on self.old }
     {
-        let Some(record) = self.peek()? else {
-            return Ok(None);
-        };
-        self.place = record.end;
-        Ok(Some(&self.reel[record]))
+        match self.peek()? {
+            Some(record) => {
+                self.place = record.end;
+                Ok(Some(&self.reel[record]))
+            }
+            None => Ok(None),
+        }
     }
 
     // The reader past the record at its place; on a refusal and at the end, the reader as it was.
@@ -131,8 +133,7 @@ impl<'a> Reader<'a> {
     }
 }
 
-// What stands at the place, by a reader made there: for callers that hold a reel and a place, as C does, and the lister where its
-// walk ends.
+// What stands at the place, by a reader made there: for callers that hold a reel and a place, as C does.
 pub fn step_by_reader(
     edition: u64,
     reel: &[u8],
