@@ -1,6 +1,6 @@
 -- What comes back across the boundary to C and Rust (c/odr.h), where that is not an answer's own number and value: beside a refusal
 -- 0 throughout. FORMAT, "Refusal numbers".
-use Rattle.std.specs.Prelude.{ℕ, ◌≡◌, ◌*◌, cond, pos, Float, List, length, get_or, Option, is_some}
+use Rattle.std.specs.Prelude.{ℕ, ◌≡◌, ◌*◌, false, cond, pos, Float, List, length, get_or, Option, is_some}
 use Rattle.std.specs.Option.{unwrap_or}
 use Rattle.std.specs.Float.{fin}
 use Rattle.lists.specs.Fill.{tab}
@@ -73,6 +73,6 @@ pub record StepTold (r : StepOut) (f : Found) : Type 0 where
   pub end : r.end ≡ step_end f
 
 -- whether some whole block's check is bad, and the index of the first; 0 beside none
-pub record BadBlockTold (r : BadBlockOut) (index : Option ℕ) : Type 0 where
-  pub found : r.found ≡ is_some index
-  pub index : r.index ≡ unwrap_or index 0
+pub record BadBlockTold (r : BadBlockOut) (bad : Option ℕ) : Type 0 where
+  pub found : r.found ≡ is_some bad
+  pub index : r.index ≡ unwrap_or bad 0

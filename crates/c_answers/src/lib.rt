@@ -164,14 +164,21 @@ impl<'a> From<Result<&'a [u8], Refusal>> for SegmentOut {
     ghost from_gives = { λ answer out. SegmentTold out (answer_by (λ s. s.now) [] answer) };
 
     fn from(answer: Result<&'a [u8], Refusal>) -> SegmentOut {
-        let (refusal, segment) = told(answer, &[]);
         let mut bytes = [0u8; LONGEST_SEGMENT];
-        let length = segment.len().min(LONGEST_SEGMENT);
-        bytes[..length].copy_from_slice(&segment[..length]);
-        SegmentOut {
-            refusal,
-            length: segment.len(),
-            bytes,
+        match answer {
+            Ok(segment) => {
+                lists::copy(&mut bytes, segment);
+                SegmentOut {
+                    refusal: 0,
+                    length: segment.len(),
+                    bytes,
+                }
+            }
+            Err(refusal) => SegmentOut {
+                refusal: u8::from(refusal),
+                length: 0,
+                bytes,
+            },
         }
     }
 }
@@ -300,12 +307,13 @@ impl From<Result<Second, Refusal>> for SecondOut {
 
     fn from(answer: Result<Second, Refusal>) -> SecondOut {
         let (refusal, second) = told(answer, NO_SECOND);
+        let channels = second.channels;
         SecondOut {
             refusal,
             records: second.records,
             origins: second.origins,
             errors: second.errors,
-            channels: second.channels,
+            channels,
             kept: second.kept,
         }
     }

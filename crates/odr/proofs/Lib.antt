@@ -1,3 +1,2 @@
-pub mod Told
 pub mod Segment
 pub mod Demand3

@@ -5,8 +5,8 @@ use mathlib.Core.List.{List}
 use lib.ListN.{take}
 use Rattle.segments.specs.Question.{segment_answer}
 use Rattle.c_answers.proofs.Segment.{room-for-segment}
-use Rattle.odr.specs.declared.SegmentOut.{SegmentOut}
-use Rattle.odr.specs.Out.{SegmentTold}
+use Rattle.c_answers.specs.declared.SegmentOut.{SegmentOut}
+use Rattle.c_answers.specs.Out.{SegmentTold}
 
 pub segment-whole : (n : ℕ) (this earlier : List ℕ) (number : ℕ) (r : SegmentOut) → SegmentTold r (segment_answer n this earlier number)
     → take r.length r.bytes ≡ (segment_answer n this earlier number).value
