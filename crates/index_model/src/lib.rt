@@ -36,7 +36,7 @@ pub const SECOND_MS: u64 = 1000;
 // What opening returns. It never changes and goes into every later call: the first second and the number of seconds of the
 // window, the highest record number, and the edition and the values of the pattern record that every record put must share.
 #[repr(C)]
-#[derive(Clone, Copy)]
+#[derive(Clone, Copy, PartialEq, Eq)]
 pub struct Opening {
     pub first_second: u64,
     pub second_count: u64,

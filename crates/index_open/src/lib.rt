@@ -74,24 +74,18 @@ pub fn judge_opening(o: Opening, rows: &[u32], seconds: &[u32]) -> Result<(), Re
     Ok(())
 }
 
-// Whether a record of an edition is of another reel.
+// Whether a record of an edition is of another reel: as the pattern it would give another opening.
 #[tactic(auto, unfolding(index_model::specs::Opening::other_reel))]
 pub fn other_reel(o: Opening, edition: u64, bytes: &[u8]) -> bool
     ensures { result ≡ other_reel o (in_edition edition bytes.now) }
 {
-    let sample_rate = record::sample_rate_in(edition, bytes);
-    let year = fields::read_field(bytes, header::YEAR);
-    let day = fields::read_field(bytes, header::DAY);
-    let tape_number = fields::read_field(bytes, header::TAPE_NUMBER);
-    let spacecraft = fields::read_field(bytes, header::SPACECRAFT);
-    let spc = fields::read_field(bytes, header::SPC);
-    (edition != o.edition)
-        | (sample_rate != o.sample_rate_hz)
-        | (year != o.year)
-        | (day != o.day)
-        | (tape_number != o.tape_number)
-        | (spacecraft != o.spacecraft)
-        | (spc != o.spc)
+    opening_of(
+        edition,
+        bytes,
+        o.first_second,
+        o.second_count,
+        o.highest_number,
+    ) != o
 }
 
 // Whether a record number is outside 1 to R.

@@ -1,14 +1,9 @@
 -- What the library's own functions here ask of each other and promise. FORMAT, "The index of seconds".
-use Rattle.std.specs.Prelude.{ℕ, ◌*◌, ◌≤◌, List, [], ◌∷◌, nat_abs}
+use Rattle.std.specs.Prelude.{ℕ, ◌*◌, ◌≤◌, List, nat_abs}
 use Rattle.sample_rates.specs.Rates.{most_samples}
 use Rattle.totals.specs.declared.Total.{Total}
 use Rattle.totals.specs.Running.{total_at}
 use Rattle.index_model.specs.Cells.{sample_offset}
-use Rattle.index_row.specs.declared.ChannelCells.{ChannelCells}
-
--- the cells of a channel as a list
-abbrev pub cell_list : ChannelCells → List ℕ
-cell_list c = c.least ∷ c.sum ∷ c.squares ∷ c.clipped ∷ c.greatest ∷ []
 
 -- the total of n samples, no more than a record has
 pub record Bounded (n : ℕ) (t : Total) : Type 0 where

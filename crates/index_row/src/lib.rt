@@ -2,108 +2,33 @@
 // for that of accepted records.
 #![tactic(auto)]
 
-ghost use Rattle.std.specs.Prelude.{◌≡◌, ◌∷◌, ◌++◌, ◌*◌, ◌/◌, ◌≤◌, ◌<◌, eqb, length};
+ghost use Rattle.std.specs.Prelude.{◌≡◌, ◌∷◌, ◌*◌, ◌≤◌, ◌<◌, length};
 ghost use Rattle.sample_rates.specs.Rates.{most_samples};
-ghost use Rattle.totals.specs.Running.{total_at};
-ghost use Rattle.index_model.specs.Records.{second_ms, in_edition, second_in};
-ghost use Rattle.index_model.specs.Cells.{cell_limit, channel_cells, stretch_cells, flag, row_of};
-ghost use Rattle.index_row.specs.Row.{cell_list, AllBounded};
+ghost use Rattle.index_model.specs.Records.{in_edition, second_in};
+ghost use Rattle.index_model.specs.Cells.{cell_limit, channel_cells, stretch_cells, row_of};
+ghost use Rattle.index_row.specs.Row.{Bounded};
 
-use index_model::{GREATEST_OFFSET, SAMPLE_OFFSET, SECOND_MS, WIDTH};
+use index_model::{CHANNEL_WIDTH, GREATEST_OFFSET, HEAD_WIDTH, SAMPLE_OFFSET, SECOND_MS, WIDTH};
 use totals::Total;
 
-// The cells of a channel, each with its offset.
-#[derive(Clone, Copy)]
-struct ChannelCells {
-    least: u32,
-    sum: u32,
-    squares: u32,
-    clipped: u32,
-    greatest: u32,
-}
-
-// 1 for a bit that is set.
-fn flag_cell(bit: u64) -> u32
-    ensures { result ≡ flag (eqb bit 1) }
-{
-    if bit == 1 {
-        return 1;
-    }
-    0
-}
-
-// The second of a tag: that of the tag itself, whichever sample it times.
-fn second_at(tag: u64) -> u64
-    ensures { result ≡ tag / second_ms }
-{
-    tag / SECOND_MS
-}
-
-// The second of a record; the tag of any bytes is less than a cell can hold.
+// The second of a record: that of its tag, whichever sample this times. The tag of any bytes is less than a cell can hold.
+#[tactic(auto, unfolding(index_model::specs::Records::second_in))]
 pub fn second_of(bytes: &[u8]) -> u64
     ensures { (result ≡ second_in bytes.now) × (result < cell_limit) }
 {
-    second_at(fields::read_field(bytes, header::TIME_TAG))
+    let tag = fields::read_field(bytes, header::TIME_TAG);
+    tag / SECOND_MS
 }
 
-// The cells of a channel (1 to 4) that has so many samples.
-fn channel_cells(totals: [Total; 4], channel: usize, count: usize) -> ChannelCells
-    requires { (1 ≤ channel) × (channel ≤ 4) × AllBounded count totals }
-    ensures { cell_list result ≡ channel_cells count (total_at totals channel) }
+// The cells of a channel that has so many samples, each with its offset.
+fn channel_cells(total: Total, count: usize) -> [u32; CHANNEL_WIDTH]
+    requires { Bounded count total }
+    ensures { result ≡ channel_cells count total }
 {
-    let at = channel - 1;
-    let total = totals[at];
-    let sum = (total.sum + (SAMPLE_OFFSET * count as u64) as i64) as u32;
-    let squares = total.squares as u32;
     let least = (SAMPLE_OFFSET as i64 - total.least as i64) as u32;
+    let sum = (total.sum + (SAMPLE_OFFSET * count as u64) as i64) as u32;
     let greatest = (total.greatest as i64 + GREATEST_OFFSET as i64) as u32;
-    ChannelCells {
-        sum,
-        squares,
-        clipped: total.clipped,
-        least,
-        greatest,
-    }
-}
-
-// The row of these cells, in their order.
-fn row_from(
-    origin: u32,
-    error: u32,
-    second: u32,
-    one: ChannelCells,
-    two: ChannelCells,
-    three: ChannelCells,
-    four: ChannelCells,
-) -> [u32; WIDTH]
-    ensures { result ≡ 1 ∷ origin ∷ error ∷ second ∷ cell_list one ++ (cell_list two ++ (cell_list three ++ cell_list four)) }
-{
-    [
-        1,
-        origin,
-        error,
-        second,
-        one.least,
-        one.sum,
-        one.squares,
-        one.clipped,
-        one.greatest,
-        two.least,
-        two.sum,
-        two.squares,
-        two.clipped,
-        two.greatest,
-        three.least,
-        three.sum,
-        three.squares,
-        three.clipped,
-        three.greatest,
-        four.least,
-        four.sum,
-        four.squares,
-        four.clipped,
-        four.greatest,
-    ]
+    [least, sum, total.squares as u32, total.clipped, greatest]
 }
 
 // The row with these flags and this second, and the cells of a stretch of samples.
@@ -112,24 +37,26 @@ fn stretch_row(origin: u32, error: u32, second: u32, stretch: &[u8]) -> [u32; WI
     ensures { result ≡ 1 ∷ origin ∷ error ∷ second ∷ stretch_cells stretch.now }
 {
     let count = stretch.len() / 4;
-    let totals = totals::stretch_totals(stretch);
-    row_from(
-        origin,
-        error,
-        second,
-        channel_cells(totals, 1, count),
-        channel_cells(totals, 2, count),
-        channel_cells(totals, 3, count),
-        channel_cells(totals, 4, count),
-    )
+    let [one, two, three, four] = totals::stretch_totals(stretch);
+    let channels = [
+        channel_cells(one, count),
+        channel_cells(two, count),
+        channel_cells(three, count),
+        channel_cells(four, count),
+    ];
+    let mut row = [0u32; WIDTH];
+    row[..HEAD_WIDTH].copy_from_slice(&[1, origin, error, second]);
+    row[HEAD_WIDTH..].copy_from_slice(channels.as_flattened());
+    row
 }
 
 // The row of any bytes in an edition.
+#[tactic(auto, unfolding(index_model::specs::Cells::row_of))]
 pub fn row_of(edition: u64, bytes: &[u8]) -> [u32; WIDTH]
     ensures { result ≡ row_of (in_edition edition bytes.now) }
 {
-    let origin = flag_cell(fields::read_field(bytes, header::CLOCK_ORIGIN));
-    let error = flag_cell(fields::read_field(bytes, header::COPY_ERROR));
+    let origin = u32::from(fields::read_field(bytes, header::CLOCK_ORIGIN) == 1);
+    let error = u32::from(fields::read_field(bytes, header::COPY_ERROR) == 1);
     let second = second_of(bytes) as u32;
     stretch_row(
         origin,

@@ -25,7 +25,7 @@ fn any_fewer(lengths: [usize; 4], count: usize) -> bool
 fn judge(edition: u64, bytes: &[u8], count: usize, lengths: [usize; 4]) -> Result<(), Refusal>
     ensures { refusal_in result ≡ record_refusal edition bytes.now then first (12 when list_any (λ n. ltb n count) lengths ∷ []) }
 {
-    record::judge(edition, bytes)?;
+    record::judge(edition, bytes)?; // first, since 12 stands behind 1 to 11
     if any_fewer(lengths, count) {
         return Err(Refusal::NoSuchSample);
     }
@@ -34,6 +34,7 @@ fn judge(edition: u64, bytes: &[u8], count: usize, lengths: [usize; 4]) -> Resul
 
 // The samples of a record, out to the buffers of the four channels; places past them keep their contents. The stretch tells how
 // many there are: of an accepted record it is whole, and any other is refused whatever it tells.
+// The buffers are four parameters, as odr_read_samples (C) lends them.
 #[tactic(auto, using(crate::proofs::Judged::judged_by_stretch), unfolding(crate::specs::InOut::channel_after))]
 pub fn read_samples(
     edition: u64,

@@ -1,5 +1,5 @@
 use Prim.Native.Nat.{ℕ, ◌/◌}
-use mathlib.Core.Path.{ap, ◌∙◌}
+use mathlib.Core.Path.{ap}
 use native.Mathlib.Omega.{arith}
 use Rattle.index_model.specs.Records.{second_ms, second_in}
 use Rattle.index_row.proofs.Samples.{tag_small}
@@ -8,6 +8,6 @@ use Rattle.index_row.proofs.second_of.Goals as goal
 pub returns : goal.returns
 unfolding second_in
 returns c = (
-  c.second_at.ensures ∙ ap (λ (tag : ℕ). tag / second_ms) c.read_field.ensures,
-  omega (arith, c.second_at.ensures, c.read_field.ensures, tag_small c.args.bytes.now),
+  ap (λ (tag : ℕ). tag / second_ms) c.read_field-tag.ensures,
+  omega (arith, c.read_field-tag.ensures, tag_small c.args.bytes.now),
 )
