@@ -30,9 +30,9 @@ monitor-words =
 header-most : (n : ℕ) → header_bytes n ≤ 166
 header-most = of-editions (λ e. e.layout.header-bytes ≤ 166) (lit≤ tt) (lit≤ tt)
 
-pub last-word-most : (n : ℕ) (b : List ℕ) → last_sample_word_of n b ≤ most_last_word
+pub last_word_most : (n : ℕ) (b : List ℕ) → last_sample_word_of n b ≤ most_last_word
 unfolding last_sample_word_of record_rate
-last-word-most n b =
+last_word_most n b =
     ⊎_elim (λ e. subst (λ (l : SampleRate). last_sample_word l ≤ most_last_word) (sym e) (omega arith))
     (λ l. omega (arith, l.last, l.most, header-most n)) (rate-line n (value_of (sample_rate n) b))
 

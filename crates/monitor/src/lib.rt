@@ -21,6 +21,7 @@ fn row_of(numbers: [u64; SEGMENT_COUNT], number: u64) -> Option<usize>
 }
 
 // The last word of a record's samples.
+#[tactic(auto, using(crate::proofs::Monitor::last_word_most), unfolding(crate::specs::Monitor::last_sample_word_of))]
 fn last_sample_word(edition: u64, bytes: &[u8]) -> usize
     ensures { (result ≡ last_sample_word_of edition bytes.now) × (result ≤ most_last_word) }
 {
@@ -40,6 +41,7 @@ fn byte_of(edition: u64, bytes: &[u8], word: u8) -> usize
 }
 
 // The bytes of `count` words after the samples from word `first` on, as many as the record has.
+#[tactic(auto, using(lists::proofs::Parts::clipped), unfolding(crate::specs::Monitor::monitor_bytes))]
 pub fn monitor_bytes<'a>(edition: u64, bytes: &'a [u8], first: u8, count: u8) -> &'a [u8]
     ensures { result.now ≡ monitor_bytes edition bytes.now first count }
 {
@@ -51,6 +53,7 @@ pub fn monitor_bytes<'a>(edition: u64, bytes: &'a [u8], first: u8, count: u8) ->
 }
 
 // Whether the segment of a row is new in a record. Word 1 is the status, whose bit 1 is row 0's.
+#[tactic(auto, unfolding(crate::specs::Monitor::is_new))]
 fn is_new(edition: u64, bytes: &[u8], row: usize) -> bool
     requires { row < segment_count }
     ensures { result ≡ is_new edition bytes.now row }

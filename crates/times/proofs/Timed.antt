@@ -7,12 +7,11 @@ use mathlib.Core.List.{List}
 use mathlib.Core.Logic.{⊎_elim}
 use native.Mathlib.Nat.{div-le_self}
 use native.Mathlib.Omega.{arith}
-use lib.Dec.{eqb, ltb, lit≤}
+use lib.Dec.{eqb, ltb}
 use lib.IntN.{ℤ, pos, negsuc, neg_ℤ, ◌+ℤ◌, ◌*ℤ◌, *ℤ-zero}
-use lib.Signed.{mag}
 use borrow.Author.Tests.{eqb-true, eqb-false, lt-ltb, le-ltb, eq-eqb, ne_eqb}
 use Rattle.lists.proofs.Order.{le-or-lt}
-use Rattle.lists.proofs.Range.{Between, moved_up, negated-between, between-mag}
+use Rattle.lists.proofs.Range.{Between, moved_up, negated-between}
 use Rattle.fields.specs.Field.{value_of}
 use Rattle.fields.proofs.OneField.{value-lt}
 use Rattle.header.specs.Rows.{time_tag}

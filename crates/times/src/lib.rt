@@ -60,11 +60,7 @@ pub fn first_sample_time(edition: u64, bytes: &[u8]) -> i64
 }
 
 // The time of sample k of a record, or the refusal.
-#[tactic(
-    auto,
-    using(crate::proofs::Timed::tag_small, record::proofs::Count::count_small),
-    unfolding(crate::specs::SampleTime::time_answer, crate::specs::SampleTime::time_refusal, crate::specs::SampleTime::sample_time)
-)]
+#[tactic(auto, using(crate::proofs::Timed::tag_small, record::proofs::Count::count_small), unfolding(crate::specs::SampleTime::time_answer, crate::specs::SampleTime::time_refusal, crate::specs::SampleTime::sample_time))]
 pub fn sample_time(edition: u64, bytes: &[u8], k: u64) -> Result<i64, Refusal>
     ensures { answer_in (pos 0) result ≡ time_answer edition bytes.now k }
 {
