@@ -7,9 +7,6 @@ ghost use Rattle.std.specs.Prelude.{◌≡◌, ◌%◌, ◌^◌, ◌≤◌, ◌<
 ghost use Rattle.bits.specs.Bits.{widest};
 ghost use Rattle.signed.specs.Signed.{signed_value, signed_fits};
 
-// The greatest number of 64 bits.
-const LAST: u64 = 18_446_744_073_709_551_615;
-
 // How many codes a width has.
 fn code_count(width: usize) -> u64
     requires { width ≤ widest }
@@ -22,18 +19,18 @@ fn code_count(width: usize) -> u64
 pub fn value_of(width: usize, code: u64) -> u64
     ensures { result ≡ signed_value (min width widest) (code % 2 ^ min width widest) }
 {
-    let codes = code_count(lists::lesser(width, bits::WIDEST));
+    let codes = code_count(width.min(bits::WIDEST));
     let low = code % codes;
     if low < codes / 2 {
         return low;
     }
-    low + (LAST - codes + 1)
+    low.wrapping_sub(codes)
 }
 
 // Whether a value is one that the width can hold.
 pub fn fits(width: usize, value: u64) -> bool
     ensures { result ≡ signed_fits (min width widest) value }
 {
-    let half = code_count(lists::lesser(width, bits::WIDEST)) / 2;
-    (value < half) | (LAST - value < half)
+    let half = code_count(width.min(bits::WIDEST)) / 2;
+    (value < half) | (u64::MAX - value < half)
 }
