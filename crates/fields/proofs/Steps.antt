@@ -5,13 +5,12 @@ use mathlib.Core.Bool.{Bool, true, false, cond, not, ◌||◌}
 use mathlib.Core.List.{List}
 use native.Mathlib.Nat.{min-eq_left, mod-eq_of_lt}
 use native.Mathlib.Omega.{arith}
-use lib.Dec.{ltb}
 use Rattle.bits.specs.Bits.{get_bits, set_bits, widest}
-use Rattle.bits.specs.Decimal.{decimal_value, digits, coded, most_digits}
+use Rattle.bits.specs.Decimal.{decimal_value, digits, most_digits}
 use Rattle.bits.proofs.Bits.{get_bits-lt}
-use Rattle.signed.specs.Signed.{signed_value, signed_fits}
+use Rattle.signed.specs.Signed.{signed_value}
 use Rattle.fields.specs.declared.Field.{Field}
-use Rattle.fields.specs.Field.{start, bit_width, is_decimal, is_signed, digit_count, encoded, bits_fit, value_of, with_value, digits_good, Readable}
+use Rattle.fields.specs.Field.{start, bit_width, is_decimal, is_signed, digit_count, encoded, value_of, with_value, digits_good, Readable}
 
 -- a readable field is no wider than the widest, and has no more than the most digits
 module _ (f : Field) (r : Readable f) where
@@ -60,20 +59,6 @@ module _ (f : Field) (r : Readable f) (b : List ℕ) (s x : ℕ) (at : s ≡ sta
 pub digits-binary : (f : Field) (b : List ℕ) → is_decimal f ≡ false → true ≡ digits_good f b
 unfolding digits_good
 digits-binary f b e = sym (ap (λ (t : Bool). not t || digits (digit_count f) (get_bits (start f) (bit_width f) b)) e)
-
--- the code of a value, by the kind of the field
-module _ (f : Field) (r : Readable f) (v : ℕ) where
-  pub code-decimal : is_decimal f ≡ true → coded (min (digit_count f) most_digits) v ≡ encoded f v
-  code-decimal e = (λ i. coded (count-whole f r i) v) ∙ sym (ap (λ (t : Bool). cond t (coded (digit_count f) v) v) e)
-
-  pub code-binary : is_decimal f ≡ false → v ≡ encoded f v
-  code-binary e = sym (ap (λ (t : Bool). cond t (coded (digit_count f) v) v) e)
-
-  -- what the bits can hold
-  pub fits_signed : is_signed f ≡ true → signed_fits (min (bit_width f) widest) v ≡ bits_fit f v
-  fits_signed n =
-      (λ i. signed_fits (width-whole f r i) v)
-      ∙ sym (ap (λ (t : Bool). cond t (signed_fits (bit_width f) v) (ltb v (2 ^ bit_width f))) n)
 
 -- what is written
 pub written : (f : Field) → Readable f → (v s x : ℕ) (b : List ℕ) → s ≡ start f → x ≡ encoded f v
