@@ -25,7 +25,7 @@ pub fn value_of(width: usize, code: u64) -> u64
     if low < codes / 2 {
         return low;
     }
-    low + (u64::MAX - codes + 1)
+    low.wrapping_sub(codes)
 }
 
 // Whether a value is one that the width can hold.
