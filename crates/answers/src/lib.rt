@@ -1,8 +1,7 @@
 // What a call answers: a value, or the first refusal that applies. FORMAT, "Refusal numbers". Every crate above uses this.
 #![tactic(auto)]
 
-ghost use Rattle.std.specs.Prelude.{◌≡◌, cond};
-ghost use Rattle.answers.specs.Refusal.{◌then◌};
+ghost use Rattle.std.specs.Prelude.{◌≡◌};
 ghost use Rattle.answers.specs.Refused.{number_of, refusal_in};
 
 // Why a call gives no value. The numbers are the customer's, and their order in a call is that of FORMAT.
@@ -55,24 +54,4 @@ pub fn refusal_number<T: Copy>(answer: Result<T, Refusal>) -> u8
         Ok(_) => 0,
         Err(refusal) => u8::from(refusal),
     }
-}
-
-// (temporary) The refusal n, or where that is 0 the refusal m.
-pub fn first_refusal(n: u8, m: u8) -> u8
-    ensures { result ≡ n then m }
-{
-    if n != 0 {
-        return n;
-    }
-    m
-}
-
-// (temporary)
-pub fn check(number: u8, applies: bool, after: u8) -> u8
-    ensures { result ≡ cond applies number after }
-{
-    if applies {
-        return number;
-    }
-    after
 }

@@ -1,16 +1,8 @@
-// Lists: definitions and laws that no single subject owns, the lesser of two lengths, and bytes copied. Every crate above may use
-// them.
+// Lists: definitions and laws that no single subject owns, and bytes copied. Every crate above may use them.
 #![tactic(auto)]
 
 ghost use Rattle.std.specs.Prelude.{◌≡◌, min, length, get_or};
 ghost use Rattle.lists.specs.Fill.{over};
-
-// The lesser of two lengths.
-pub fn lesser(a: usize, b: usize) -> usize
-    ensures { result ≡ min a b }
-{
-    a.min(b)
-}
 
 // As many bytes as both have, to the start of a lent buffer.
 pub fn copy(to: &mut [u8], from: &[u8])
