@@ -79,13 +79,14 @@ pub fn judge_opening(o: Opening, rows: &[u32], seconds: &[u32]) -> Result<(), Re
 pub fn other_reel(o: Opening, edition: u64, bytes: &[u8]) -> bool
     ensures { result ≡ other_reel o (in_edition edition bytes.now) }
 {
-    opening_of(
+    let own = opening_of(
         edition,
         bytes,
         o.first_second,
         o.second_count,
         o.highest_number,
-    ) != o
+    );
+    own != o
 }
 
 // Whether a record number is outside 1 to R.
