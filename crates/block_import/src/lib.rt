@@ -54,7 +54,8 @@ fn length_right(n: usize, i: usize, bytes: usize) -> bool
     full_or_last(n, i, bytes) && (i != 0 || 4 <= bytes)
 }
 
-// Whether a block has zeros after its last used byte.
+// Whether a block has zeros after its last used byte. A block is a part of a slice whose length is asked for, here and in two more
+// functions of blocks: a `&[u8; 512]` would be had by a test that cannot fail.
 #[tactic(auto, unfolding(block_layout::specs::Refusals::padded))]
 fn is_padded(block: &[u8]) -> bool
     requires { length block.now ≡ block_bytes }

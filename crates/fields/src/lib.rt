@@ -10,7 +10,7 @@ mod readable;
 use readable::ReadableField;
 
 // A field: its word and first bit, both counted from 1, its width in bits, and whether it holds decimal digits or a signed
-// number.
+// number. Two flags, not an enum of three kinds: `read_field` and the others promise an answer for any five values.
 #[derive(Clone, Copy)]
 pub struct Field(pub usize, pub usize, pub usize, pub bool, pub bool);
 

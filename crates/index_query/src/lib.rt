@@ -1,5 +1,6 @@
 // Questions to the index about a second, and the test of its cells. FORMAT, "The index of seconds", "Refusal numbers". Every
-// public function here takes any value of an opening and any cells, and changes none.
+// public function here takes any value of an opening and any cells, and changes none. They stay three parameters, as in
+// `index_update`.
 #![tactic(auto)]
 
 ghost use Rattle.std.specs.Prelude.{◌≡◌, IfOk, false, ◌||◌, ◌*◌, ◌≤◌, ◌<◌, eqb, pos, nat_abs, ◌-ℤ◌, get_or};
@@ -50,7 +51,8 @@ fn greatest_from(x: u32) -> i8
     channels::signed((((x as u64) + (256 - GREATEST_OFFSET)) % 256) as u8)
 }
 
-// The sum of so many samples: its cell has the offset of each beside its value.
+// The sum of so many samples: its cell has the offset of each beside its value. The bound on their count is worked out once, by
+// `samples_in_records`, whose promise has it, and handed on by three functions; a type for it would be taken apart in each.
 #[tactic(auto, using(crate::proofs::Decoding::sum_fits, crate::proofs::Decoding::sum_read, crate::proofs::Decoding::sum_exact))]
 fn sum_from(x: u32, count: u64) -> i64
     requires { count ≤ sample_limit }

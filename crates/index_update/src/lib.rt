@@ -1,5 +1,7 @@
 // Records put into the index of seconds, and taken out. FORMAT, "The index of seconds", "Refusal numbers". Any bytes, any value
-// of an opening and any cells; a refusal changes no cell.
+// of an opening and any cells; a refusal changes no cell. An opening, rows and seconds stay three parameters, as C lends them, and
+// `WithinLimits` a fact about them: of a struct with two `&mut` each function would have to promise too that it gives the same two
+// back, which is no plainer.
 #![tactic(auto)]
 
 ghost use Rattle.std.specs.Prelude.{◌≡◌, not, ◌&&◌, ◌+◌, ◌-◌, ◌*◌, ◌≤◌, ◌<◌, eqb, length};

@@ -16,6 +16,7 @@ fn read_input(mut from: Stdin, buffer: &mut [u8]) -> io::Result<usize>
     ensures { IfOk result (λ n. n ≤ length buffer.new) }
 {
     let mut done = 0;
+    // Each read says how far it came, so there is nothing that a `for` could count.
     while done < buffer.len() {
         let more = from.read(&mut buffer[done..])?;
         if more == 0 {

@@ -19,7 +19,8 @@ use text::Columns;
 // An input longer than this is refused by 24.
 pub const LONGEST_INPUT: usize = 65_536;
 
-// A buffer of this size holds the listing of any input: `longest_listing` of specs/Listing.
+// A buffer of this size holds the listing of any input: `longest_listing` of specs/Listing. The library takes no memory, so such a
+// buffer is an array, and the length of what stands in it comes beside it.
 pub const LONGEST_LISTING: usize = 4_335;
 
 // The columns of the line of a record, read of any bytes.
@@ -35,7 +36,8 @@ fn read_columns(bytes: &[u8]) -> Columns
     }
 }
 
-// ## Lines, each written at a place of a buffer that has room for it; a writer returns the place behind its text.
+// ## Lines, each written at a place of a buffer that has room for it; a writer returns the place behind its text. Each asks for room
+// for a text of its own, so no one type could say it.
 
 fn write_record(out: &mut [u8], at: usize, bytes: &[u8]) -> usize
     requires { Room out.old at (record_text bytes.now) }

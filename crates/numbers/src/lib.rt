@@ -1,5 +1,6 @@
 // Numbers as text (FORMAT, "The listing"), each written at a place of a lent buffer as far as the buffer goes; a writer returns
-// the place behind what it wrote.
+// the place behind what it wrote. Buffer and place stay two parameters: of a struct that holds the `&mut` each writer would have to
+// promise too that it gives the same one back, which is no plainer. The decimal printers recurse, as the customer asks.
 #![tactic(auto)]
 
 ghost use Rattle.std.specs.Prelude.{[], ◌∷◌};

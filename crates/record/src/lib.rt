@@ -1,5 +1,6 @@
 // Records of an edition: which are accepted, their header read and written, and their samples' stretch. FORMAT, "The record",
-// "Refusal numbers". Every public function takes any bytes.
+// "Refusal numbers". Every public function takes any bytes. An edition and bytes stay two parameters here and above, as C hands
+// them over: of a struct that holds a reference a clause reads `record.entry.bytes.now`, which is no plainer than `bytes.now`.
 #![tactic(auto)]
 
 ghost use Rattle.std.specs.Prelude.{◌≡◌, ◌≤◌, length};

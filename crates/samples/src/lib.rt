@@ -1,5 +1,5 @@
 // The samples of a record, out to four channel buffers and back in, and their totals. FORMAT, "Samples", "Refusal numbers". Every
-// function here takes any bytes.
+// function here takes any bytes. The four buffers stay four parameters, as C lends them.
 #![tactic(auto)]
 
 ghost use Rattle.std.specs.Prelude.{◌≡◌, [], ◌∷◌, ltb, length};

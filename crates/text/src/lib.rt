@@ -15,7 +15,8 @@ const HERTZ_PLACES: usize = 6;
 
 const FREQUENCY_RATE_PLACES: usize = 5;
 
-// No line of five numbers of 64 bits is longer: `longest_of_words` of proofs/Line.
+// No line of five numbers of 64 bits is longer: `longest_of_words` of proofs/Line. The library takes no memory, so a line is made in
+// an array, with its length beside it.
 const LONGEST_LINE: usize = 107;
 
 // The columns of a record's line.

@@ -63,7 +63,7 @@ impl Total {
     }
 }
 
-// Sample k of a channel.
+// Sample k of a channel. That the stretch has set k stays a `requires` of three functions: the loop counts k, and 01 names sample k.
 fn sample(stretch: &[u8], channel: Channel, k: usize) -> i8
     requires { 4 * k + 4 ≤ length stretch.now }
     ensures { result ≡ sample_of stretch.now channel.number k }
