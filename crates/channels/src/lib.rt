@@ -27,6 +27,7 @@ fn copy_channel(stretch: &[u8], channel: usize, count: usize, out: &mut [i8])
     ensures { out.new ≡ over out.old (sample_of stretch.now channel) count }
 {
     let place = channel - 1;
+    // Not by iter_mut and zip, which was tried: a proof then knows none of the samples written.
     for k in 0..count {
         out[k] = signed(stretch[4 * k + place]);
     }
@@ -58,6 +59,7 @@ fn store_sets(stretch: &mut [u8], count: usize, one: &[i8], two: &[i8], three: &
     requires count_in_bounds_2 { (count ≤ length three.now) × (count ≤ length four.now) }
     ensures { stretch.new ≡ interleaved count one.now two.now three.now four.now }
 {
+    // Not by chunks_exact_mut and zip: a proof then knows none of the bytes written.
     for k in 0..count {
         let first = 4 * k;
         store(stretch, first, one, k);
