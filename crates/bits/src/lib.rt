@@ -106,6 +106,7 @@ pub fn read_bits(bytes: &[u8], start: usize, width: usize) -> u64
 fn set_byte(bytes: &mut [u8], i: usize, byte: u8)
     ensures { bytes.new ≡ set bytes.old i byte }
 {
+    // Not by get_mut: what it lends out, once written, leaves a proof without the bytes.
     if i < bytes.len() {
         bytes[i] = byte;
     }

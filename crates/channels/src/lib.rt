@@ -72,6 +72,7 @@ fn store_sets(stretch: &mut [u8], count: usize, one: &[i8], two: &[i8], three: &
     requires count_in_bounds_2 { (count ≤ length three.now) × (count ≤ length four.now) }
     ensures { stretch.new ≡ interleaved count one.now two.now three.now four.now }
 {
+    // Not by chunks_exact_mut and zip: a proof then knows none of the bytes written.
     for k in 0..count {
         let first = 4 * k;
         store(stretch, first, one, k);

@@ -123,7 +123,7 @@ fn from_rows(rows: &[u32], second: u64, count: usize) -> [u32; WIDTH]
     let mut cells = [0; WIDTH];
     for i in 0..count {
         if row_within(rows, i, second) {
-            // Named first: of an array, a call's result is covered only where it is new.
+            // Two steps: the borrow checker does not cover an array variable that is assigned straight from a call.
             let next = merged_cells(cells, read_block(rows, i));
             cells = next;
         }

@@ -10,6 +10,7 @@ ghost use Rattle.numbers.specs.Writing.{Written};
 pub fn write_byte(out: &mut [u8], at: usize, byte: u8) -> usize
     ensures { Written out.old at (byte ∷ []) result out.new }
 {
+    // Not by get_mut: what it lends out, once written, leaves a proof without the bytes.
     if at < out.len() {
         out[at] = byte;
         at + 1

@@ -112,7 +112,7 @@ fn sum_sets(stretch: &[u8], count: usize) -> [Total; 4]
     };
     let mut totals = [start; 4];
     for k in 0..count {
-        // Named first: of an array, a call's result is covered only where it is new.
+        // Two steps: the borrow checker does not cover an array variable that is assigned straight from a call.
         let next = with_samples(totals, stretch, k);
         totals = next;
     }
