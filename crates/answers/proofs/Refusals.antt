@@ -85,14 +85,6 @@ module _ {A : Type 0} (n : ℕ) (empty v : A) where
       by-test true a z = (eqb-true n 0 a, ap (λ (y : Answer A). y.value) z)
       by-test false a z = absurd (true≢false (ap (λ (y : Answer A). y.given) z))
 
-  -- what gives none bears a number that is not 0
-  pub refused-some : (x : A) (m : ℕ) → refused x m ≡ unless n empty v → eqb m 0 ≡ false
-  refused-some x m e = by-test (eqb n 0) refl e
-    where
-      by-test : (t : Bool) → eqb n 0 ≡ t → refused x m ≡ cond t (accepted v) (refused empty n) → eqb m 0 ≡ false
-      by-test true a z = absurd (true≢false (ap (λ (y : Answer A). y.given) (sym z)))
-      by-test false a z = ap (λ (y : Answer A). eqb y.number 0) z ∙ a
-
 -- ## results
 
 -- no refusal has the number 0
@@ -129,23 +121,13 @@ numbered-above r = leb→le 1 (number_of r) (by-variant r)
     by-variant BadCheck = tt
     by-variant WrongBlocks = tt
 
--- so the number of a refusal is some number
-pub err-some : (r : Refusal) (n : ℕ) → number_of r ≡ n → n ≡ 0 → ⊥
-err-some r n e z = omega (arith, numbered-above r, e, z)
-
--- a call that goes on after `?`, and one that ends there
+-- a call that goes on after `?`
 pub then-ok : (n m k : ℕ) → 0 ≡ n → k ≡ m → k ≡ n then m
 then-ok n m k e q = q ∙ sym (then-none n m (sym e))
-
-pub then-err : (r : Refusal) (n m : ℕ) → number_of r ≡ n → number_of r ≡ n then m
-then-err r n m e = e ∙ sym (then_some n m (err-some r n e))
 
 module _ {A : Type 0} (n : ℕ) (empty v : A) where
   pub answer-ok : 0 ≡ n → accepted v ≡ unless n empty v
   answer-ok e = unless-none n empty v (sym e)
-
-  pub answer-err : (r : Refusal) → number_of r ≡ n → refused empty (number_of r) ≡ unless n empty v
-  answer-err r e = ap (refused empty) e ∙ unless-some n empty v (err-some r n e)
 
 -- ## how large a number can be
 

@@ -61,14 +61,6 @@ pub digits-binary : (f : Field) (b : List ℕ) → is_decimal f ≡ false → tr
 unfolding digits_good
 digits-binary f b e = sym (ap (λ (t : Bool). not t || digits (digit_count f) (get_bits (start f) (bit_width f) b)) e)
 
--- the code of a value, by the kind of the field
-module _ (f : Field) (r : Readable f) (v : ℕ) where
-  pub code-decimal : is_decimal f ≡ true → coded (min (digit_count f) most_digits) v ≡ encoded f v
-  code-decimal e = (λ i. coded (count-whole f r i) v) ∙ sym (ap (λ (t : Bool). cond t (coded (digit_count f) v) v) e)
-
-  pub code-binary : is_decimal f ≡ false → v ≡ encoded f v
-  code-binary e = sym (ap (λ (t : Bool). cond t (coded (digit_count f) v) v) e)
-
   -- what the bits can hold
   pub fits_signed : is_signed f ≡ true → signed_fits (min (bit_width f) widest) v ≡ bits_fit f v
   fits_signed n =

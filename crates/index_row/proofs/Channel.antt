@@ -77,9 +77,5 @@ module _ {made z : ℤ} (m : Makes made z) where
   read : to_z w64 (of_z w64 made) ≡ pos (nat_of z)
   read = to_z-of_z made-fits ∙ whole
 
-  pub cell-fits : T (non_neg (to_z w64 (of_z w64 made))) × Fits w32 (nat_abs (to_z w64 (of_z w64 made)))
-  cell-fits =
-      subst (λ (y : ℤ). T (non_neg y) × Fits w32 (nat_abs y)) (sym read) (tt, record { fits = omega (arith, m.within.most) })
-
   pub cell-is : nat_abs (to_z w64 (of_z w64 made)) ≡ nat_of z
   cell-is = ap nat_abs read

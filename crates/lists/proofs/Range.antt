@@ -24,11 +24,6 @@ pub negated-between : (low high n : ℕ) → n ≤ low → Between low high (neg
 negated-between low high zero h = omega arith
 negated-between low high (suc n) h = omega arith
 
--- how far such a number can be from zero
-pub between-mag : (low high m : ℕ) (z : ℤ) → low ≤ m → high < m → Between low high z → mag z < m
-between-mag low high m (pos n) p q h = omega arith
-between-mag low high m (negsuc n) p q h = omega arith
-
 pub mag-between : (m : ℕ) (z : ℤ) → mag z < m → Between m m z
 mag-between m (pos n) h = omega arith
 mag-between m (negsuc n) h = h

@@ -21,24 +21,6 @@ use Rattle.header.proofs.Sound.{of-editions, fields-sound}
 use Rattle.checks.specs.Checks.{checks}
 use Rattle.record.specs.Record.{header_refusal, front_refusal, record_refusal}
 
--- ## the refusal by a front, by how far the checks went
-
-module _ (n : ℕ) (front : List ℕ) (bytes : ℕ) where
-  abbrev by_tests : Bool → Bool → ℕ
-  by_tests unknown short = first (25 when unknown ∷ 1 when short ∷ []) then header_refusal n front bytes
-
-  pub front-25 : is_unknown n ≡ true → 25 ≡ front_refusal n front bytes
-  unfolding front_refusal
-  front-25 e = sym (λ t. by_tests (e t) (ltb (length front) (header_bytes n)))
-
-  pub front-1 : is_unknown n ≡ false → length front < header_bytes n → 1 ≡ front_refusal n front bytes
-  unfolding front_refusal
-  front-1 e short = sym (λ t. by_tests (e t) (lt-ltb (length front) (header_bytes n) short t))
-
-  pub front-header : is_unknown n ≡ false → header_bytes n ≤ length front → header_refusal n front bytes ≡ front_refusal n front bytes
-  unfolding front_refusal
-  front-header e long = sym (λ t. by_tests (e t) (le-ltb (length front) (header_bytes n) long t))
-
 -- a record whose front is all of it: 25 and 1 come first there too
 pub whole-front : (n : ℕ) (b : List ℕ) → record_refusal n b ≡ front_refusal n b (length b)
 unfolding record_refusal front_refusal
