@@ -36,7 +36,7 @@ module _ (input : List ℕ) where
   inside =
       (omega (arith, far input (length input) 0), (along 1985 input (length input) 0).inside (omega arith))
 
-  -- an input that 24 does not refuse holds at most 84: so deep are the calls of the walk, and one more where it ends
+  -- an input that 24 does not refuse holds at most 84
   pub few-records : length input ≤ longest_input → length records ≤ most_records
   few-records h = let i = inside in omega (arith, i.0, i.1, h)
 

@@ -6,7 +6,7 @@ use mathlib.Core.Bool.{Bool, true, false, cond, not, ◌&&◌, ◌||◌}
 use mathlib.Core.List.{List, [], ◌∷◌, ◌++◌}
 use mathlib.Core.Logic.{◌⊎◌, inl, inr, ⊎_elim}
 use native.Mathlib.Omega.{arith}
-use lib.Dec.{T, eqb, leb, ltb, leb→le, lit≤}
+use lib.Dec.{T, leb, ltb, leb→le, lit≤}
 use lib.ListN.{length, take, drop, length-append}
 use lib.Seq.{get_or-take, length-take-le, take-append_seam}
 use borrow.Author.Tests.{ltb-false, le-ltb, eq-eqb}
@@ -22,7 +22,7 @@ use Rattle.answers.specs.Refusal.{Check, first}
 use Rattle.checks.specs.declared.Judged.{Judged}
 use Rattle.checks.specs.Checks.{checks, judged_of}
 use Rattle.record.specs.Record.{record_refusal}
-use Rattle.answers.proofs.Refusals.{none-applies, then-none, then-zero}
+use Rattle.answers.proofs.Refusals.{none-applies, then-none, then-zero, then-most, first-most}
 use Rattle.record.proofs.Accepted.{record-facts}
 use Rattle.reel.specs.Reel.{header_words, words_in, rest_checks, rest_refusal}
 
@@ -141,12 +141,10 @@ module _ (n : ℕ) (rest : List ℕ) (long : header_bytes n ≤ length rest) (wo
 -- no refusal of a reel of an edition is above 11
 pub rest-number : (n : ℕ) (rest : List ℕ) → is_unknown n ≡ false → rest_refusal n rest ≤ 11
 unfolding rest_refusal
-rest-number n rest known = by-test (eqb (first (rest_checks n (length rest) (words_in rest))) 0)
-    (first-within 1 2 (rest_checks n (length rest) (words_in rest)) tt) (record-number n known (take (2 * words_in rest) rest))
-  where
-    by-test : {k m : ℕ} (b : Bool) → NoneOr 1 2 k → NoneOr 1 11 m → cond b m k ≤ 11
-    by-test true p q = ⊎_elim (λ z. omega (arith, z)) (λ z. z.1) q
-    by-test false p q = ⊎_elim (λ z. omega (arith, z)) (λ z. omega (arith, z.1)) p
+rest-number n rest known =
+    then-most (first (rest_checks n (length rest) (words_in rest))) (record_refusal n (take (2 * words_in rest) rest)) 11
+    (first-most 11 (rest_checks n (length rest) (words_in rest)) tt)
+    (⊎_elim (λ z. omega (arith, z)) (λ z. z.1) (record-number n known (take (2 * words_in rest) rest)))
 
 -- ## an accepted record at the front
 
