@@ -7,7 +7,7 @@ use native.Mathlib.Nat.{min-eq_left, mod-eq_of_lt}
 use native.Mathlib.Omega.{arith}
 use lib.Dec.{ltb}
 use Rattle.bits.specs.Bits.{get_bits, set_bits, widest}
-use Rattle.bits.specs.Decimal.{decimal_value, digits, coded, most_digits}
+use Rattle.bits.specs.Decimal.{decimal_value, digits, most_digits}
 use Rattle.bits.proofs.Bits.{get_bits-lt}
 use Rattle.signed.specs.Signed.{signed_value, signed_fits}
 use Rattle.fields.specs.declared.Field.{Field}
@@ -61,7 +61,8 @@ pub digits-binary : (f : Field) (b : List ℕ) → is_decimal f ≡ false → tr
 unfolding digits_good
 digits-binary f b e = sym (ap (λ (t : Bool). not t || digits (digit_count f) (get_bits (start f) (bit_width f) b)) e)
 
-  -- what the bits can hold
+-- what the bits can hold
+module _ (f : Field) (r : Readable f) (v : ℕ) where
   pub fits_signed : is_signed f ≡ true → signed_fits (min (bit_width f) widest) v ≡ bits_fit f v
   fits_signed n =
       (λ i. signed_fits (width-whole f r i) v)
