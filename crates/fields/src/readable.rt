@@ -8,14 +8,14 @@ use crate::Field;
 const LAST_READABLE_WORD: usize = 4000;
 
 #[derive(Clone, Copy)]
-pub struct ReadableField {
+pub(crate) struct ReadableField {
     pub field: Field,
     ghost readable: { Readable field },
 }
 
 impl ReadableField {
     // The field, if it is one that can be read: one of these words, bits 1 to 16, and no wider than the widest.
-    pub fn new(field: Field) -> Option<ReadableField>
+    pub(crate) fn new(field: Field) -> Option<ReadableField>
         ensures some { IsSome result ↔ T (readable field) }
         ensures same { IfSome result (λ r. r.field ≡ field) }
     {
@@ -37,7 +37,7 @@ impl ReadableField {
     }
 
     // What it holds.
-    pub fn value(self, bytes: &[u8]) -> u64
+    pub(crate) fn value(self, bytes: &[u8]) -> u64
         ensures { result ≡ value_of self.field bytes.now }
     {
         let Field(_, _, width, decimal, signed) = self.field;
@@ -52,7 +52,7 @@ impl ReadableField {
     }
 
     // Whether each of its digits, if it holds digits, is at most 9.
-    pub fn digits_good(self, bytes: &[u8]) -> bool
+    pub(crate) fn digits_good(self, bytes: &[u8]) -> bool
         ensures { result ≡ digits_good self.field bytes.now }
     {
         let Field(_, _, width, decimal, _) = self.field;
@@ -75,7 +75,7 @@ impl ReadableField {
     }
 
     // The value goes into the field.
-    pub fn put_value(self, bytes: &mut [u8], value: u64)
+    pub(crate) fn put_value(self, bytes: &mut [u8], value: u64)
         ensures { bytes.new ≡ with_value self.field value bytes.old }
     {
         let Field(_, _, width, _, _) = self.field;
@@ -83,7 +83,7 @@ impl ReadableField {
     }
 
     // Whether the field is decimal or a value is one that its bits can hold, signed or not.
-    pub fn holds(self, value: u64) -> bool
+    pub(crate) fn holds(self, value: u64) -> bool
         ensures { result ≡ binary_fits self.field value }
     {
         let Field(_, _, width, decimal, signed) = self.field;
