@@ -1,6 +1,7 @@
 // The index of seconds: definitions of its cells and calls, the ledger, histories, demand 3 proved over every history
 // (proofs/Demand3.antt), and exactly when the consistency test says yes, on any cells (proofs/Consistent.antt). FORMAT, "The
-// index of seconds", "The ledger". No function here; the functions of the index cite these definitions and share these numbers.
+// index of seconds", "The ledger". No function here but what is
+// derived; the functions of the index cite these definitions and share these numbers.
 #![tactic(auto)]
 
 // The cells of a row, and of a second.
