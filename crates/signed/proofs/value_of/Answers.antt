@@ -1,7 +1,7 @@
 use Prim.Native.Nat.{ℕ, ◌+◌, ◌-◌, ◌%◌, ◌^◌, ◌≤◌, ◌<◌}
 use mathlib.Core.Path.{◌≡◌, ap, sym, subst, ◌∙◌}
 use native.Mathlib.Omega.{arith}
-use native.Mathlib.Nat.{mod-lt, mod-eq_of_lt}
+use native.Mathlib.Nat.{mod-lt}
 use borrow.Author.Rules.{rules}
 use Rattle.bits.specs.Bits.{widest}
 use Rattle.signed.specs.Signed.{signed_value}
@@ -22,12 +22,17 @@ returns-then-low-codes c =
     sym (lower p (2 ^ 64) (code % p) c.if-low-codes.true)
     ∙ shown code p c.new.result.bits _ c.code_count-codes.ensures.0 c.new.ensures
 
+pub overflow_add-result-2 : goal.overflow_add-result-2
+overflow_add-result-2 c =
+    let h : c.code_count-codes.result < 2 ^ 64 = few c.code_count-codes.result c.new.result.bits c.code_count-codes.ensures.0 (search rules) in
+    record { fits = omega (arith, h, mod-lt c.args.code c.code_count-codes.ensures.1) }
+
 pub returns : goal.returns
 returns c =
     let code = c.args.code in
     let p = c.code_count-codes.result in
     let h : p < 2 ^ 64 = few p c.new.result.bits c.code_count-codes.ensures.0 (search rules) in
-    let low : code % p < p = mod-lt code c.code_count-codes.ensures.1 in
-    mod-eq_of_lt (let e : code % p + (2 ^ 64 - p) < 2 ^ 64 = omega (arith, h, low) in e)
+    let e : 2 ^ 64 - 1 - p + 1 ≡ 2 ^ 64 - p = omega (arith, h) in
+    ap (λ (z : ℕ). code % p + z) e
     ∙ sym (upper p (2 ^ 64) (code % p) (omega (arith, c.if-low-codes.false)))
     ∙ shown code p c.new.result.bits _ c.code_count-codes.ensures.0 c.new.ensures
