@@ -17,6 +17,7 @@ use Rattle.reel.specs.declared.Reader.{Reader}
 use Rattle.reel.proofs.Rest.{header-size}
 use Rattle.reel.proofs.Place.{moved}
 use Rattle.reel.proofs.Onward.{settled}
+use Rattle.reel.proofs.Walk.{does-not-move}
 use Rattle.reel.proofs.Reading.{at_place, moved_by_lem, read-record, read-finished, read-refused}
 use Rattle.numbers.specs.Writing.{Room, Written}
 use Rattle.numbers.proofs.Writing.{room-first, room-rest, room_as, written_both, written_as, nothing}
@@ -67,6 +68,24 @@ left d = length d.reel.now - d.place
 -- the text from a reader's place on
 abbrev pub text : Reader → List ℕ
 text d = text_from d.reel.now d.place
+
+-- a reader d of 1985 and the reader r moved on: where it has moved, less of its reel is left
+module _ (d r : Reader) (of-1985 : d.edition ≡ 1985) (is : r ≡ moved_on d) where
+  on : r ≡ at_place d (next_place d.edition d.reel.now d.place)
+  on = is ∙ sym (moved_by_lem d (step_of d))
+
+  next-is : r.place ≡ next_place 1985 d.reel.now d.place
+  next-is = ap (λ (y : Reader). y.place) on ∙ ap (λ (n : ℕ). next_place n d.reel.now d.place) of-1985
+
+  same-reel : r.reel.now ≡ d.reel.now
+  same-reel = ap (λ (y : Reader). y.reel.now) on
+
+  pub falls : d.place < r.place → left r < left d
+  falls h = by-test (is_record (step_at 1985 d.reel.now d.place)) refl
+    where
+      by-test : (t : Bool) → is_record (step_at 1985 d.reel.now d.place) ≡ t → left r < left d
+      by-test true e = let m = moved 1985 d.reel.now d.place e in omega (arith, h, next-is, m.inside, ap length same-reel)
+      by-test false e = absurd (let z : ⊥ = omega (arith, h, next-is, does-not-move 1985 d.reel.now d.place e) in z)
 
 -- A reader d of 1985 whose text has room in a buffer from a place on; where it is written there, the text x has been written from
 -- the start i of the buffer l
@@ -123,27 +142,24 @@ module _ {l x out : List ℕ} {i at : ℕ} {d : Reader} (g : Going l i x d out a
     stands : is_record (step_at 1985 d.reel.now d.place) ≡ true
     stands = sym (ap is_record found) ∙ told.0
 
-    on : r ≡ at_place d (next_place d.edition d.reel.now d.place)
-    on = moves ∙ sym (moved_by_lem d (step_of d))
+    reel-is : r.reel.now ≡ d.reel.now
+    reel-is = same-reel d r g.of-1985 moves
 
-    next-is : r.place ≡ next_place 1985 d.reel.now d.place
-    next-is = ap (λ (y : Reader). y.place) on ∙ ap (λ (n : ℕ). next_place n d.reel.now d.place) g.of-1985
-
-    same-reel : r.reel.now ≡ d.reel.now
-    same-reel = ap (λ (y : Reader). y.reel.now) on
+    place-is : r.place ≡ next_place 1985 d.reel.now d.place
+    place-is = next-is d r g.of-1985 moves
 
     first-line : record_text b.now ++ text r ≡ text d
     first-line =
         let reel = d.reel.now in
         let bytes-are : b.now ≡ record_at 1985 reel d.place = told.1 ∙ ap (λ (f : Found). bytes_found f reel) found in
-        (λ j. record_text (bytes-are j) ++ text_from (same-reel j) (next-is j))
+        (λ j. record_text (bytes-are j) ++ text_from (reel-is j) (place-is j))
         ∙ ap (λ (t : List ℕ). t ++ text_from reel (next_place 1985 reel d.place)) (sym (line-record reel d.place stands))
         ∙ text-more reel d.place stands
 
-    pub falls : left r < left d
-    falls =
+    pub less-left : left r < left d
+    less-left =
         let m = moved 1985 d.reel.now d.place stands in
-        omega (arith, next-is, m.header, m.inside, ap length same-reel, (header-size 1985).0)
+        falls d r g.of-1985 moves (omega (arith, place-is, m.header, (header-size 1985).0))
 
     pub record-room : Room out at (record_text b.now)
     record-room = room-first (text r) first-line g.room
@@ -151,7 +167,7 @@ module _ {l x out : List ℕ} {i at : ℕ} {d : Reader} (g : Going l i x d out a
     pub goes-on : {next : ℕ} {after : List ℕ} → Written out at (record_text b.now) next after → Going l i x r after next
     goes-on w =
         record {
-          of-1985 = ap (λ (y : Reader). y.edition) on ∙ g.of-1985;
+          of-1985 = ap (λ (y : Reader). y.edition) (on d r g.of-1985 moves) ∙ g.of-1985;
           room = room-rest first-line g.room w;
           rest = λ v. g.rest (written_both first-line w v);
         }

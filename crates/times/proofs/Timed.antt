@@ -8,6 +8,7 @@ use mathlib.Core.Logic.{⊎_elim}
 use native.Mathlib.Nat.{div-le_self}
 use native.Mathlib.Omega.{arith}
 use lib.Dec.{eqb, ltb}
+use lib.Signed.{mag}
 use lib.IntN.{ℤ, pos, negsuc, neg_ℤ, ◌+ℤ◌, ◌*ℤ◌, *ℤ-zero}
 use borrow.Author.Tests.{eqb-true, eqb-false, lt-ltb, le-ltb, eq-eqb, ne_eqb}
 use Rattle.lists.proofs.Order.{le-or-lt}
@@ -76,6 +77,14 @@ near-tag hz k h = by-test (eqb hz 0) refl
 pub time-near : (tag hz k : ℕ) → k < most_samples → Near (ms_us * tag) (time_of tag hz k)
 time-near tag hz k h =
     moved_up (tagged_sample * second_us) (most_samples * second_us) (ms_us * tag) (from_tag hz k) (near-tag hz k h)
+
+-- so a time fits a number of 64 bits
+pub time-fits : (tag hz k : ℕ) → tag < 2 ^ 27 → k < most_samples → mag (time_of tag hz k) < 2 ^ 63
+time-fits tag hz k p q = by-sign (time_of tag hz k) (time-near tag hz k q)
+  where
+    by-sign : (z : ℤ) → Near (ms_us * tag) z → mag z < 2 ^ 63
+    by-sign (pos n) h = omega (arith, p, h)
+    by-sign (negsuc n) h = omega (arith, h)
 
 -- ## not rounded
 

@@ -1,7 +1,7 @@
 -- The reader begins at the start of the reel; each read hands out a record, whose line is written, or ends the text. Assumes nothing.
 use mathlib.Core.Path.{refl}
 use Rattle.answers.specs.Refused.{number_of}
-use Rattle.listing.proofs.TextFrom.{at-start, at-end, refusal-room, refusal-written, record-room, goes-on, falls}
+use Rattle.listing.proofs.TextFrom.{at-start, at-end, refusal-room, refusal-written, record-room, goes-on, less-left}
 use Rattle.listing.proofs.write_walk.Goals as goal
 
 pub loop-record-init : goal.loop-record-init
@@ -15,7 +15,7 @@ write_record-at-requires c =
 pub loop-record-smaller : goal.loop-record-smaller
 loop-record-smaller c =
     let read = c.in-Ok-Some.ensures in
-    falls c.loop-record.invariant read.result_value read.self_after c.in-Ok-Some.field-0-is
+    less-left c.loop-record.invariant read.result_value read.self_after c.in-Ok-Some.field-0-is
 
 pub loop-record-preserved : goal.loop-record-preserved
 loop-record-preserved c =
