@@ -51,6 +51,7 @@ impl DigitCount {
 // The lowest bit of each of the 14 digits.
 const DIGIT_ONES: u64 = 0x11_1111_1111_1111;
 
+// The lowest byte; an `as` alone would have to lose nothing.
 fn narrow(x: u64) -> u8
     ensures { result ≡ x % 256 }
 {

@@ -41,6 +41,7 @@ fn copy_channel(stretch: &[u8], channel: Channel, count: usize, out: &mut [i8])
     ensures { out.new ≡ over out.old (sample_of stretch.now channel.number) count }
 {
     let place = channel.number - 1;
+    // Not by iter_mut and zip, which was tried: a proof then knows none of the samples written.
     for k in 0..count {
         out[k] = signed(stretch[4 * k + place]);
     }

@@ -95,7 +95,7 @@ pub fn merged_cells(second: [u32; WIDTH], row: [u32; WIDTH]) -> [u32; WIDTH]
     cells
 }
 
-// A cell as a wider number.
+// A cell as a wider number: `u64::from`, with the bound that callers need promised beside it.
 pub fn wide(x: u32) -> u64
     ensures { (result ≡ x) × (result < cell_limit) }
 {

@@ -38,6 +38,7 @@ fn print_line(rt: &impl Print, asked: &str, number: u8) -> io::Result<()> {
     println!(rt; "{asked}{number}")
 }
 
+// The number, as a line has it; so in each function here that answers one.
 fn refusal_of(edition: u64, bytes: &[u8]) -> u8 {
     refusal_number(record::judge(edition, bytes))
 }
