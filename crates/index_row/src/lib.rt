@@ -37,6 +37,7 @@ fn stretch_row(origin: u32, error: u32, second: u32, stretch: &[u8]) -> [u32; WI
     ensures { result ≡ 1 ∷ origin ∷ error ∷ second ∷ stretch_cells stretch.now }
 {
     let count = stretch.len() / 4;
+    // Not by map: what the closure asks of each total would stand in a `requires` and in a lemma over the four, which is no plainer.
     let [one, two, three, four] = totals::stretch_totals(stretch);
     let channels = [
         channel_cells(one, count),
