@@ -66,7 +66,7 @@ fn two_to(k: usize) -> u64
     1u64 << k
 }
 
-// Byte i, or 0 past the end.
+// Byte i, or 0 past the end: `get`, with the bound that callers need promised beside it.
 fn byte_at(bytes: &[u8], i: usize) -> u64
     ensures { (result ≡ get_or bytes.now i 0) × (result < 256) }
 {
@@ -79,6 +79,7 @@ fn window(bytes: &[u8], from: usize, count: usize) -> u64
     ensures { result ≡ get_bits (8 * from) (8 * count) bytes.now }
 {
     let mut x = 0;
+    // By index: bytes past the end count as 0, so there is no slice to go through.
     for k in 0..count {
         x = x * 256 + byte_at(bytes, from + k);
     }

@@ -23,7 +23,8 @@ pub const COVERED: usize = 510;
 
 const MODULUS: u32 = 65_521;
 
-// Byte i, or 0 past the end.
+// Byte i, or 0 past the end: `get`, with the bound that callers need promised. One line, as in `bits`, whose numbers are of 64 bits;
+// a shared one would need a conversion and its bound at each use.
 fn byte_at(bytes: &[u8], i: usize) -> usize
     ensures { (result ≡ get_or bytes.now i 0) × (result < 256) }
 {

@@ -15,7 +15,7 @@ use block_check::{
     BLOCK_BYTES, COVERED, INDEX_AT, LENGTH_AT, NUMBER_AT, PAYLOAD_AT, PAYLOAD_BYTES,
 };
 
-// The two bytes of a number, high byte first.
+// The two bytes of a number, high byte first: `to_be_bytes`, with the list that callers need promised.
 fn store_word(pair: &mut [u8], x: usize)
     requires { (length pair.old ≡ 2) × (x < 65536) }
     ensures { pair.new ≡ word_bytes x }
@@ -54,6 +54,7 @@ fn store_blocks(out: &mut [u8], source: &[u8], n: usize)
     requires { (n ≡ block_count (length source.now)) × (block_bytes * n ≤ length out.old) × (length source.now ≤ longest_record) }
     ensures { out.new ≡ blocks source.now n ++ drop (block_bytes * n) out.old }
 {
+    // Not by chunks_exact_mut: a proof then knows none of the bytes written.
     for i in 0..n {
         let start = BLOCK_BYTES * i;
         store_block(&mut out[start..start + BLOCK_BYTES], source, i);

@@ -36,6 +36,7 @@ fn checks_pass(blocks: &[u8]) -> bool
 
 // ## 28
 
+// That i is one of n stays a `requires` of three functions: the range of `each_right` says it, and a type would be made there alone.
 fn full_or_last(n: usize, i: usize, bytes: usize) -> bool
     requires { i < n }
     ensures { result ≡ full_or_last n i bytes }
@@ -84,6 +85,7 @@ fn each_right(blocks: &[u8], number: usize, n: usize) -> bool
     requires { n ≡ whole_blocks blocks.now }
     ensures { result ≡ each_right number blocks.now n }
 {
+    // By index: with chunks_exact and enumerate, which was tried, what the closure asks of a block stayed open.
     (0..n).all(|i| {
         let start = BLOCK_BYTES * i;
         block_right(&blocks[start..start + BLOCK_BYTES], number, n, i)
@@ -155,6 +157,7 @@ fn store_payloads(out: &mut [u8], blocks: RightBlocks<'_>)
     requires { length (carried_of blocks.bytes.now) ≤ length out.old }
     ensures { out.new ≡ carried_of blocks.entry.bytes.now ++ drop (length (carried_of blocks.entry.bytes.now)) out.old }
 {
+    // By index: the place of block i's payload is made of i too.
     for i in 0..blocks.bytes.len() / BLOCK_BYTES {
         let start = BLOCK_BYTES * i;
         let block = &blocks.bytes[start..start + BLOCK_BYTES];

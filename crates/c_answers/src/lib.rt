@@ -21,7 +21,7 @@ ghost use Rattle.c_answers.specs.Out.{value_or, rate_line_in, second_in, PhasesT
 use answers::Refusal;
 use editions::RateLine;
 use header::FIELD_COUNT;
-use index_means::Means;
+use index_means::{Means, NO_MEANS};
 use index_model::Opening;
 use index_query::Second;
 use std::ops::Range;
@@ -326,11 +326,6 @@ pub struct MeansOut {
     pub refusal: u8,
     pub channels: [Means; 4],
 }
-
-const NO_MEANS: Means = Means {
-    mean: 0.0,
-    mean_square: 0.0,
-};
 
 impl From<Result<[Means; 4], Refusal>> for MeansOut {
     ghost from_gives = { λ answer out. told out.refusal out.channels ≡ answer_in no_means_each answer };

@@ -12,7 +12,7 @@ ghost use Rattle.header.specs.Edition.{edition_of, fields_of};
 use fields::Field;
 use header_parts::Part;
 
-// The editions that a caller can name. Numbers, not an enum: each public call promises an answer for any number (25, `record::judge`),
+// The editions that a caller can name. Numbers, not an enum: each public call that names one promises an answer for any (25),
 // and C hands over a number, as the value of an opening does; an enum would ask more of callers or be made anew in each call.
 pub const EDITION_1985: u64 = 1985;
 

@@ -30,7 +30,8 @@ pub fn read_cell(cells: &[u32], i: u64, j: usize) -> u32
     cells[from..].get(j).copied().unwrap_or(0)
 }
 
-// The cells of row (or second) i of a buffer.
+// The cells of row (or second) i of a buffer. That the buffer holds them stays a `requires` of three functions, here and in
+// `index_update`: each has it from another test.
 fn read_block(cells: &[u32], i: usize) -> [u32; WIDTH]
     requires { width * i + width ≤ length cells.now }
     ensures { result ≡ block_at cells.now i }
@@ -89,6 +90,7 @@ pub fn merged_cells(second: [u32; WIDTH], row: [u32; WIDTH]) -> [u32; WIDTH]
     ensures { result ≡ merged second row }
 {
     let mut cells = second;
+    // By index: cell j is merged by its place, and of iter_mut a proof knows nothing of what was written.
     for j in 0..WIDTH {
         cells[j] = merge_cell(j, cells[j], row[j]);
     }
@@ -124,6 +126,7 @@ fn from_rows(rows: &[u32], second: u64, count: usize) -> [u32; WIDTH]
     ensures { result ≡ second_from rows.now second count }
 {
     let mut cells = [0; WIDTH];
+    // By index: row i is tested by two of its cells, and only then copied.
     for i in 0..count {
         if row_within(rows, i, second) {
             // Two steps: the borrow checker does not cover an array variable that is assigned straight from a call.

@@ -1,7 +1,7 @@
 // The index of seconds: definitions of its cells and calls, the ledger, histories, demand 3 proved over every history
 // (proofs/Demand3.antt), and exactly when the consistency test says yes, on any cells (proofs/Consistent.antt). FORMAT, "The
-// index of seconds", "The ledger". No function here but what is
-// derived; the functions of the index cite these definitions and share these numbers.
+// index of seconds", "The ledger". No function here but what is derived; the functions of the index cite these definitions and
+// share these numbers.
 #![tactic(auto)]
 
 // The cells of a row, and of a second.
@@ -22,9 +22,6 @@ pub const SQUARES: usize = 2;
 pub const CLIPPED: usize = 3;
 
 pub const GREATEST: usize = 4;
-
-// A cell is less than this.
-pub const CELL_LIMIT: u64 = 4_294_967_296;
 
 // What makes a sample, and 0 less a sample, a number from 0 up; and a sample a number from 1 up.
 pub const SAMPLE_OFFSET: u64 = 128;

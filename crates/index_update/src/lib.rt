@@ -34,8 +34,8 @@ fn is_left(o: Opening, held: u32, old: u64) -> bool
     held != 0 && index_open::in_window(o, old)
 }
 
-// The second that an old row was of is worked out anew from the rows. What 13 and 14 leave is required here and of the next two
-// functions: in a struct that kept it of the two borrowed buffers each clause would name their borrows, and C lends them singly.
+// The second that an old row was of is worked out anew from the rows. What 13 and 14 leave is required here, of `replace_row` and
+// of `insert_row`: in a struct that kept it of the two borrowed buffers each clause would name their borrows, and C lends them singly.
 #[tactic(auto, unfolding(index_model::specs::Calls::leave))]
 fn leave_second(o: Opening, rows: &[u32], held: u32, old: u32, seconds: &mut [u32])
     requires { WithinLimits o (lent rows.now seconds.old) }

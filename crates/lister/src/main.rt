@@ -38,7 +38,7 @@ fn write_out(rt: &HostRuntime, text: &[u8]) {
     }
 }
 
-// The buffer holds any listing, so that nothing is refused.
+// The buffer holds any listing, so that nothing is refused. An array with its length beside it: see `listing::LONGEST_LISTING`.
 fn list(rt: &HostRuntime, input: &[u8]) {
     let mut text = [0u8; listing::LONGEST_LISTING];
     let length = listing::list_whole(input, &mut text);

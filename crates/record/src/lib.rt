@@ -28,6 +28,7 @@ pub fn sample_rate_in(edition: u64, bytes: &[u8]) -> u64
     fields::read_field(bytes, header::SAMPLE_RATE_1985)
 }
 
+// The same for the sync word: one function for both would have to be told both rows at each call, which is no plainer.
 fn sync_word_in(edition: u64, bytes: &[u8]) -> u64
     ensures { result ≡ value_of (sync_word edition) bytes.now }
 {

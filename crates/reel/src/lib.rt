@@ -63,7 +63,8 @@ pub fn next_place(edition: u64, reel: &[u8], place: usize) -> usize
     }
 }
 
-// The bytes of the record at a place, a part of the reel; empty where there is none.
+// The bytes of the record at a place, a part of the reel; empty where there is none. Not an Option: `record_at` of
+// specs/Reel, which the theorems of walks name, is a list, and `next_place` a place.
 #[tactic(auto, using(crate::proofs::Place::within))]
 pub fn record_at<'a>(edition: u64, reel: &'a [u8], place: usize) -> &'a [u8]
     ensures { result.now ≡ record_at edition reel.now place }

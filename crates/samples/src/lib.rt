@@ -34,7 +34,6 @@ fn judge(edition: u64, bytes: &[u8], count: usize, lengths: [usize; 4]) -> Resul
 
 // The samples of a record, out to the buffers of the four channels; places past them keep their contents. The stretch tells how
 // many there are: of an accepted record it is whole, and any other is refused whatever it tells.
-// The buffers are four parameters, as odr_read_samples (C) lends them.
 #[tactic(auto, using(crate::proofs::Judged::judged_by_stretch), unfolding(crate::specs::InOut::channel_after))]
 pub fn read_samples(
     edition: u64,

@@ -115,6 +115,7 @@ pub fn put_record_line(out: &mut [u8], at: usize, columns: Columns) -> Result<us
     put_text(out, at, &line[..length])
 }
 
+// As `put_record_line`, three lines each: a closure for the writer would be no plainer.
 pub fn put_refused_line(out: &mut [u8], at: usize, number: u64) -> Result<usize, Refusal>
     ensures result_value { answer_in 0 result ≡ answer_at out.old at (refused_line number) }
     ensures out_after { out.new ≡ buffer_at out.old at (refused_line number) }

@@ -83,7 +83,8 @@ fn with_channel(totals: [Total; 4], stretch: &[u8], channel: Channel, k: usize) 
     next
 }
 
-// The running totals of k samples a channel; each channel takes its sample k. Literal channels keep the totals in registers.
+// The running totals of k samples a channel; each channel takes its sample k. One channel is replaced at a time, as 01
+// asks, and literal channels keep the totals in registers.
 fn with_samples(totals: [Total; 4], stretch: &[u8], k: usize) -> [Total; 4]
     requires { (totals ≡ runnings_of stretch.now k) × (4 * k + 4 ≤ length stretch.now) × (k < count_limit) }
     ensures { result ≡ runnings_of stretch.now (k + 1) }
