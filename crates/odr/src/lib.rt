@@ -115,9 +115,7 @@ pub extern "C" fn odr_read_samples(
     ensures three_after { three.new ≡ channel_after result edition bytes.now 3 three.old }
     ensures four_after { four.new ≡ channel_after result edition bytes.now 4 four.old }
 {
-    answers::refusal_number(samples::read_samples(
-        edition, bytes, one, two, three, four,
-    ))
+    answers::refusal_number(samples::read_samples(edition, bytes, one, two, three, four))
 }
 
 // The samples of channels 1 to 4, into the sample stretch of a record.
@@ -133,9 +131,7 @@ pub extern "C" fn odr_write_samples(
     ensures value { result ≡ samples_refusal edition bytes.old (length one.now) (length two.now) (length three.now) (length four.now) }
     ensures bytes_after { bytes.new ≡ record_after result edition bytes.old one.now two.now three.now four.now }
 {
-    answers::refusal_number(samples::write_samples(
-        edition, bytes, one, two, three, four,
-    ))
+    answers::refusal_number(samples::write_samples(edition, bytes, one, two, three, four))
 }
 
 // The totals of a record's samples, for each channel.
@@ -253,9 +249,7 @@ pub extern "C" fn odr_insert(
     ensures rows_after { rows.new ≡ (inserted opening (in_edition edition bytes.now) (lent rows.old seconds.old)).rows }
     ensures seconds_after { seconds.new ≡ (inserted opening (in_edition edition bytes.now) (lent rows.old seconds.old)).seconds }
 {
-    answers::refusal_number(index_update::insert(
-        opening, edition, bytes, rows, seconds,
-    ))
+    answers::refusal_number(index_update::insert(opening, edition, bytes, rows, seconds))
 }
 
 // Removes the record of a number.
