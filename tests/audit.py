@@ -67,7 +67,9 @@ def is_renamed(name, refusal):
         return False
     crate = ROOT / "crates" / name.split("/")[0]
     above = (crate / found[1]).read_text(encoding="utf-8").splitlines()[: int(found[2])]
-    function = [fn[1] for fn in map(re.compile(r"\s*(?:pub )?(?:extern \"C\" )?fn (\w+)").match, above) if fn][-1]
+    functions = [fn[1] for fn in map(re.compile(r"\s*(?:pub(?:\(crate\))? )?(?:extern \"C\" )?fn (\w+)").match, above) if fn]
+    # A constant of an impl, above every function, has no branches.
+    function = functions[-1] if functions else None
     branch = re.compile(r"-(?:then|else)-")
     for answers in [*crate.glob(f"proofs/**/{function}/Answers.antt"), *crate.glob(f"proofs/**/+{function}/Answers.antt")]:
         goals = {re.sub(r"-clause-.*", "", g) for g in re.findall(r"^pub (\S+) : goal\.", answers.read_text(encoding="utf-8"), re.M)}
