@@ -3,7 +3,8 @@
 
     audit.py [--all] [LOG]
 
-- Every public function of a library has a promise (`ensures`) and none has a `requires`.
+- Every public function of a library has a promise (`ensures`) and none has a `requires`; every conversion says what it gives
+  (`from_gives`).
 - Every must-fail edit says in its first line which wrong program it is, edits no proof, and finds each text that it replaces once.
 - docs/TRACE.md names every must-fail edit, and no edit that is not there.
 - A row of a table in README.md and docs/ has as many cells as the table's first row.
@@ -24,9 +25,12 @@ ROOT = pathlib.Path(__file__).resolve().parent.parent
 # What rt says of an edit that it tried; behind the first colon stands what the prover said, if an edit was refused for that.
 TRIED = re.compile(r"^rt: must-fail (\w+/[\w.-]+)\.edit: (.*)", re.M)
 REFUSED = "refused, as it must be"
-# An error, or a fact that the prover's own search did not prove. An error that says "was not admitted" only follows from another
-# refusal.
-REFUSAL = re.compile(r"(?!.* was not admitted)(?:\./)?(\w+)/.*: error: .*|note: .*: it is not proved that .*")
+# An error, or a fact that the prover's own search did not prove; of a type's invariant, where it found values at which that is false. An
+# error that says "was not admitted" only follows from another refusal.
+REFUSAL = re.compile(
+    r"(?!.* was not admitted)(?:\./)?(\w+)/.*: error: .*|note: .*: it is not proved that .*"
+    r"|note: .*: `search` found no proof \(`invariant_of-\w+`\); the facts known there allow values at which this goal is false"
+)
 # A fact that no answer of the function's and no search proves, at a goal by its name. Where rt found values at which it is false, the
 # line goes on with "the facts known there allow values ..".
 OPEN = re.compile(r"note: (src/[\w/]+\.rt):(\d+):\d+: it is not proved that .*?\(`([^`]+)`\)(.*)")
@@ -56,6 +60,11 @@ def check_promises():
             faults.append(f"{name} has no promise")
         if "requires" in clauses:
             faults.append(f"{name} has a requires")
+    for source in sorted(ROOT.glob("crates/*/src/lib.rt")):
+        for found in re.finditer(r"^impl\b[^\n]*\bFrom<.*?^}$", source.read_text(encoding="utf-8"), re.M | re.S):
+            count += 1
+            if "ghost from_gives = " not in found[0]:
+                faults.append(f"{source.parent.parent.name} has a conversion without a promise: {found[0].splitlines()[0]}")
     return count
 
 
@@ -162,7 +171,7 @@ def main():
     check_tables()
     for fault in faults:
         print(f"tests/audit.py: {fault}", file=sys.stderr)
-    print(f"tests/audit.py: {functions} public functions, {len(edits)} must-fail edits, {read} refusals read: {len(faults)} faults")
+    print(f"tests/audit.py: {functions} public functions and conversions, {len(edits)} must-fail edits, {read} refusals read: {len(faults)} faults")
     return 1 if faults else 0
 
 

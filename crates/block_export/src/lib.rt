@@ -29,7 +29,7 @@ fn store_payload(part: &mut [u8], rest: &[u8])
     ensures { part.new ≡ payload_by (λ k. get_or rest.now k 0) }
 {
     let used = PAYLOAD_BYTES.min(rest.len());
-    part[..used].copy_from_slice(&rest[..used]);
+    lists::copy(&mut part[..used], rest);
     part[used..].fill(0);
 }
 

@@ -63,9 +63,13 @@ fn is_padded(block: &[u8]) -> bool
     ensures { result ≡ padded block.now }
 {
     let bytes = block_check::word_at(block, LENGTH_AT).min(PAYLOAD_BYTES);
-    block[PAYLOAD_AT + bytes..COVERED]
-        .iter()
-        .all(|byte| *byte == 0)
+    let padding = &block[PAYLOAD_AT + bytes..COVERED];
+    let mut padded = true;
+    // Not by all, which ends early and so looks at one byte after the other: a short last block took three times as long.
+    for byte in padding {
+        padded &= *byte == 0;
+    }
+    padded
 }
 
 // Whether block i of n, of the record of that number, is laid out right.
@@ -163,7 +167,10 @@ fn store_payloads(out: &mut [u8], blocks: RightBlocks<'_>)
         let block = &blocks.bytes[start..start + BLOCK_BYTES];
         let bytes = block_check::word_at(block, LENGTH_AT);
         let from = PAYLOAD_BYTES * i;
-        out[from..from + bytes].copy_from_slice(&block[PAYLOAD_AT..PAYLOAD_AT + bytes]);
+        lists::copy(
+            &mut out[from..from + bytes],
+            &block[PAYLOAD_AT..PAYLOAD_AT + bytes],
+        );
     }
 }
 

@@ -4,7 +4,8 @@
 // "Refusal numbers".
 #![tactic(auto)]
 
-ghost use Rattle.std.specs.Prelude.{◌≡◌, [], ◌∷◌, false, pos};
+ghost use Rattle.std.specs.Prelude.{◌≡◌, [], ◌∷◌, false, pos, get_or};
+ghost use Rattle.lists.specs.Fill.{tab};
 ghost use Rattle.answers.specs.Answer.{told};
 ghost use Rattle.answers.specs.Refused.{answer_in, answer_by};
 ghost use Rattle.editions.specs.Answer.{no_rate_line};
@@ -16,7 +17,7 @@ ghost use Rattle.index_model.specs.Opening.{no_opening};
 ghost use Rattle.index_model.specs.Second.{no_second};
 ghost use Rattle.index_query.specs.Shown.{shown_second};
 ghost use Rattle.index_means.specs.Means.{no_means_each};
-ghost use Rattle.c_answers.specs.Out.{value_or, rate_line_in, second_in, PhasesTold, SegmentTold, StepTold, BadBlockTold};
+ghost use Rattle.c_answers.specs.Out.{value_or, longest_segment, rate_line_in, second_in, PhasesTold, SegmentTold, StepTold, BadBlockTold};
 
 use answers::Refusal;
 use editions::RateLine;
@@ -24,7 +25,7 @@ use header::FIELD_COUNT;
 use index_means::{Means, NO_MEANS};
 use index_model::Opening;
 use index_query::Second;
-use std::ops::Range;
+use reel::Span;
 use times::PhasePair;
 use totals::{NO_TOTAL, Total};
 
@@ -151,6 +152,18 @@ impl From<Result<[Total; 4], Refusal>> for TotalsOut {
     }
 }
 
+// The bytes of a segment, and 0 after them. Each place by itself: of a copy the compiler makes a call of memcpy, which the archive for
+// C would need from outside.
+pub fn segment_bytes(segment: &[u8]) -> [u8; LONGEST_SEGMENT]
+    ensures { result ≡ tab (λ k. get_or segment.now k 0) 0 longest_segment }
+{
+    let mut bytes = [0u8; LONGEST_SEGMENT];
+    for k in 0..LONGEST_SEGMENT {
+        bytes[k] = segment.get(k).copied().unwrap_or(0);
+    }
+    bytes
+}
+
 // The segment's bytes are the first `length` ones; 0 follows.
 #[repr(C)]
 #[derive(Clone, Copy)]
@@ -164,20 +177,16 @@ impl<'a> From<Result<&'a [u8], Refusal>> for SegmentOut {
     ghost from_gives = { λ answer out. SegmentTold out (answer_by (λ s. s.now) [] answer) };
 
     fn from(answer: Result<&'a [u8], Refusal>) -> SegmentOut {
-        let mut bytes = [0u8; LONGEST_SEGMENT];
         match answer {
-            Ok(segment) => {
-                lists::copy(&mut bytes, segment);
-                SegmentOut {
-                    refusal: 0,
-                    length: segment.len(),
-                    bytes,
-                }
-            }
+            Ok(segment) => SegmentOut {
+                refusal: 0,
+                length: segment.len(),
+                bytes: segment_bytes(segment),
+            },
             Err(refusal) => SegmentOut {
                 refusal: u8::from(refusal),
                 length: 0,
-                bytes,
+                bytes: [0; LONGEST_SEGMENT],
             },
         }
     }
@@ -192,10 +201,10 @@ pub struct StepOut {
     pub end: usize,
 }
 
-impl From<Result<Option<Range<usize>>, Refusal>> for StepOut {
+impl From<Result<Option<Span>, Refusal>> for StepOut {
     ghost from_gives = { λ answer out. StepTold out (shown_step answer) };
 
-    fn from(answer: Result<Option<Range<usize>>, Refusal>) -> StepOut {
+    fn from(answer: Result<Option<Span>, Refusal>) -> StepOut {
         match answer {
             Ok(Some(record)) => StepOut {
                 answer: 0,

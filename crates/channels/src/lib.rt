@@ -22,6 +22,7 @@ pub const ALL: [Channel; 4] = [
 ];
 
 // A byte as a two's complement number.
+#[tactic(auto, unfolding(crate::specs::Sample::signed_of))]
 pub fn signed(byte: u8) -> i8
     ensures { result ≡ signed_of byte }
 {

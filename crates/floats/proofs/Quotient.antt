@@ -5,9 +5,9 @@ use Prim.Native.Nat.{ℕ, suc, ◌*◌, ◌≤◌, ◌<◌}
 use native.Mathlib.Nat.{mul-one, zero-mul, mul_assoc, mul_comm, mul_left_comm, mul-pos}
 use native.Mathlib.Omega.{arith}
 use lib.IntN.{ℤ, pos, negsuc, nat_abs}
-use lib.Dec.{eqb}
+use lib.Dec.{T, eqb, le→leb, lt→ltb}
 use borrow.Author.Tests.{ne_eqb}
-use lib.Ieee.{Float, nan, inf, fin, binary64, up, down, unlike, round, of_int, div}
+use lib.Ieee.{Float, nan, inf, fin, binary64, up, down, unlike, round, of_int, div, in_float}
 use lib.Ieee.Exact.{HasValue}
 use lib.Ieee.Back.{round_whole}
 use lib.Ieee.Scale.{round_same}
@@ -55,3 +55,9 @@ whole-quotient (pos a) b h p k =
 whole-quotient (negsuc a) b h p k =
     div_value (round binary64 true (suc a) 1) (round binary64 false b 1) true (suc a) b p (round_whole binary64 true (suc a) h)
     (round_whole binary64 false b k)
+
+-- the cast to a float loses nothing
+pub cast-exact : (z : ℤ) → nat_abs z ≤ exact_limit → T (in_float binary64 z)
+unfolding in_float
+cast-exact (pos n) h = le→leb n exact_limit h
+cast-exact (negsuc n) h = lt→ltb n exact_limit h

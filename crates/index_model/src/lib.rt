@@ -23,6 +23,9 @@ pub const CLIPPED: usize = 3;
 
 pub const GREATEST: usize = 4;
 
+// A cell is less than this.
+pub const CELL_LIMIT: u64 = 4_294_967_296;
+
 // What makes a sample, and 0 less a sample, a number from 0 up; and a sample a number from 1 up.
 pub const SAMPLE_OFFSET: u64 = 128;
 

@@ -74,7 +74,7 @@ module _ (d r : Reader) (of-1985 : d.edition ≡ 1985) (is : r ≡ moved_on d) w
   on : r ≡ at_place d (next_place d.edition d.reel.now d.place)
   on = is ∙ sym (moved_by_lem d (step_of d))
 
-  next-is : r.place ≡ next_place 1985 d.reel.now d.place
+  pub next-is : r.place ≡ next_place 1985 d.reel.now d.place
   next-is = ap (λ (y : Reader). y.place) on ∙ ap (λ (n : ℕ). next_place n d.reel.now d.place) of-1985
 
   same-reel : r.reel.now ≡ d.reel.now

@@ -1,11 +1,11 @@
 -- A loop that fills a buffer by a rule, one entry after the other: `Filled` is its invariant. Assumes nothing.
 use Prim.Native.Nat.{ℕ, zero, suc, ◌+◌, ◌-◌, ◌≤◌, ◌<◌, min}
 use mathlib.Core.Path.{◌≡◌, refl, ap, sym, ◌∙◌, subst}
-use mathlib.Core.List.{List, [], ◌∷◌, ◌++◌}
+use mathlib.Core.List.{List, [], ◌∷◌, ◌++◌, append-nil}
 use mathlib.Core.Logic.{⊎_elim}
 use native.Mathlib.Nat.{add-zero, add-suc, suc-add, le_of_suc-le-suc, not-suc-le-zero, zero-add}
 use native.Mathlib.Omega.{arith}
-use lib.ListN.{get_or, length, set, take, drop, length-set, length-append, length-drop, get_or-append, get_or-eq_default}
+use lib.ListN.{get_or, length, set, take, drop, drop_of_length-le, length-set, length-append, length-drop, get_or-append, get_or-eq_default}
 use lib.Seq.{ext_get_or, get_or-set_same, get_or-set_other, get_or-append-add, get_or-drop}
 use borrow.Author.Count.{below_more}
 use Rattle.std.proofs.lemmas.List.{length-take-le, get_or-take}
@@ -96,6 +96,14 @@ module _ {A : Type 0} where
   over_front b l d m n e h =
       rw e (ap (λ (x : List A). x ++ drop n b)
       (tab-ext (λ k. get_or l k d) n d (take n l) (length-take-le n l h) (λ i p. get_or-take n l i d p)))
+
+  -- a buffer filled whole, by the first entries of a list at least as long
+  pub over-short : (b l : List A) (d : A) → length b ≤ length l
+      → over b (λ k. get_or l k d) (min (length l) (length b)) ≡ take (length b) l
+  over-short b l d h =
+      sym (over_front b l d (length b) (min (length l) (length b)) (omega arith) (omega arith))
+      ∙ ap (λ (x : List A). take (length b) l ++ x) (drop_of_length-le b {i = length b} (omega arith))
+      ∙ append-nil (take (length b) l)
 
   -- a buffer filled whole, by the entries of a list as long
   pub over-whole : (b l : List A) (d : A) → length l ≡ length b → over b (λ k. get_or l k d) (min (length l) (length b)) ≡ l

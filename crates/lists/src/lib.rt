@@ -9,5 +9,8 @@ pub fn copy(to: &mut [u8], from: &[u8])
     ensures { to.new ≡ over to.old (λ k. get_or from.now k 0) (min (length from.now) (length to.old)) }
 {
     let n = to.len().min(from.len());
-    to[..n].copy_from_slice(&from[..n]);
+    // By index: with copy_from_slice the archive for C would need memcpy and memmove from outside.
+    for k in 0..n {
+        to[k] = from[k];
+    }
 }

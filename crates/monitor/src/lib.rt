@@ -13,7 +13,7 @@ use answers::Refusal;
 pub const SEGMENT_COUNT: usize = 7;
 
 // The row, from 0, of a segment's number among those of all rows.
-fn row_of(numbers: [u64; SEGMENT_COUNT], number: u64) -> Option<usize>
+pub fn row_of(numbers: [u64; SEGMENT_COUNT], number: u64) -> Option<usize>
     ensures place { result ≡ position (λ entry. entry == number) numbers }
     ensures inside { IfSome result (λ row. row < segment_count) }
 {

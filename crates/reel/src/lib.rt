@@ -9,7 +9,14 @@ ghost use Rattle.reel.specs.Shown.{shown_step, shown_bytes};
 ghost use Rattle.reel.specs.Reader.{at_start, step_of, record_of, moved_on, bytes_answer};
 
 use answers::Refusal;
-use std::ops::Range;
+
+// Where a record lies in a reel: from `start` up to `end`. Not a `Range`, which is not Copy: a caller may keep what stands at a place
+// and hand it on.
+#[derive(Clone, Copy)]
+pub struct Span {
+    pub start: usize,
+    pub end: usize,
+}
 
 // The length in words of the record that what is left begins with.
 #[tactic(auto, using(crate::proofs::Rest::words_small))]
@@ -38,7 +45,7 @@ fn judge_rest(edition: u64, rest: &[u8], words: usize) -> Result<(), Refusal>
 
 // What stands at the place: where a record lies in the reel, nothing more, or the refusal.
 #[tactic(auto, unfolding(crate::specs::Reel::step_at))]
-pub fn step_at(edition: u64, reel: &[u8], place: usize) -> Result<Option<Range<usize>>, Refusal>
+pub fn step_at(edition: u64, reel: &[u8], place: usize) -> Result<Option<Span>, Refusal>
     ensures { shown_step result ≡ step_at edition reel.now place }
 {
     if editions::is_unknown(edition) {
@@ -50,7 +57,10 @@ pub fn step_at(edition: u64, reel: &[u8], place: usize) -> Result<Option<Range<u
     let rest = &reel[place..];
     let words = words_in(rest);
     judge_rest(edition, rest, words)?;
-    Ok(Some(place..place + 2 * words))
+    Ok(Some(Span {
+        start: place,
+        end: place + 2 * words,
+    }))
 }
 
 // The place past the record at a place, or the place itself where there is none.
@@ -70,7 +80,7 @@ pub fn record_at<'a>(edition: u64, reel: &'a [u8], place: usize) -> &'a [u8]
     ensures { result.now ≡ record_at edition reel.now place }
 {
     match step_at(edition, reel, place) {
-        Ok(Some(record)) => &reel[record],
+        Ok(Some(record)) => &reel[record.start..record.end],
         Ok(None) | Err(_) => &[],
     }
 }
@@ -96,7 +106,7 @@ impl<'a> Reader<'a> {
     }
 
     // What stands at the place reached.
-    pub fn peek(self) -> Result<Option<Range<usize>>, Refusal>
+    pub fn peek(self) -> Result<Option<Span>, Refusal>
         ensures { shown_step result ≡ step_of self.entry }
     {
         step_at(self.edition, self.reel, self.place)
@@ -119,7 +129,7 @@ impl<'a> Reader<'a> {
         match self.peek()? {
             Some(record) => {
                 self.place = record.end;
-                Ok(Some(&self.reel[record]))
+                Ok(Some(&self.reel[record.start..record.end]))
             }
             None => Ok(None),
         }
@@ -135,11 +145,7 @@ impl<'a> Reader<'a> {
 }
 
 // What stands at the place, by a reader made there: for callers that hold a reel and a place, as C does.
-pub fn step_by_reader(
-    edition: u64,
-    reel: &[u8],
-    place: usize,
-) -> Result<Option<Range<usize>>, Refusal>
+pub fn step_by_reader(edition: u64, reel: &[u8], place: usize) -> Result<Option<Span>, Refusal>
     ensures { shown_step result ≡ step_at edition reel.now place }
 {
     Reader {

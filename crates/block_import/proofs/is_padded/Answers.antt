@@ -1,16 +1,14 @@
 use Prim.Native.Nat.{ℕ, ◌-◌, ◌+◌, min}
-use mathlib.Core.Bool.{Bool}
+use mathlib.Core.Bool.{Bool, ◌&&◌}
 use mathlib.Core.List.{List}
 use mathlib.Core.Path.{◌≡◌, ap, sym, ◌∙◌}
 use mathlib.Core.Logic.{⊎_elim}
 use native.Mathlib.Omega.{arith}
 use lib.Dec.{eqb}
-use lib.ListN.{take, drop, get_or, length-drop}
-use lib.Seq.{get_or-drop}
-use borrow.Author.Rules.{rules}
-use borrow.Author.Tests.{tests}
-use Rattle.std.proofs.lemmas.Iterator.{YieldsList-from_slice}
-use Rattle.std.proofs.lemmas.Iterator.Search.{all_from_yields_List}
+use lib.ListN.{length, take, drop, get_or, length-take, length-drop}
+use lib.Seq.{take_all, get_or-drop}
+use Rattle.std.specs.List.{list_all}
+use Rattle.std.proofs.lemmas.List.Folds.{list_all_more}
 use Rattle.lists.specs.Tests.{all_to}
 use Rattle.lists.proofs.Order.{le-or-lt}
 use Rattle.block_check.specs.Check.{payload_bytes}
@@ -32,6 +30,14 @@ clipped b x =
     ∙ sym (ap (all_to (λ k. eqb (get_or b (6 + x + k) 0) 0)) (let e : payload_bytes - x ≡ 0 = omega arith in e)))
     (le-or-lt x payload_bytes)
 
+pub loop-byte-preserved : goal.loop-byte-preserved
+loop-byte-preserved c =
+    let test : ℕ → Bool = λ x. eqb x 0 in
+    let m = c.min-bytes.result in
+    let rest : List ℕ = take (510 - (6 + m)) (drop (6 + m) c.args.block.now) in
+    let i = c.loop-byte.byte-index in
+    ap (λ (t : Bool). t && test (get_or rest i 0)) c.loop-byte.invariant ∙ sym (list_all_more test rest i 0 c.loop-byte-test.true)
+
 pub returns : goal.returns
 unfolding padded
 returns c =
@@ -40,7 +46,11 @@ returns c =
     let rest = drop (6 + m) b in
     let n = 510 - (6 + m) in
     let few : n ≡ payload_bytes - m = omega arith in
-    all_from_yields_List (λ (x : ℕ). eqb x 0) _ _ c.all.result c.all.ensures.ran (YieldsList-from_slice (take n rest) c.iter.ensures.rest) (λ x b q k. search (rules, tests))
+    let all : ℕ = length (take n rest) in
+    let size : all ≡ n = omega (arith, length-take n rest, length-drop (6 + m) b, c.requires) in
+    let done : c.loop-byte.byte-index ≡ all = omega (arith, c.loop-byte-test.false, c.loop-byte.auto.byte-index-end) in
+    c.loop-byte.invariant ∙ ap (λ (k : ℕ). list_all (λ x. eqb x 0) (take k (take n rest))) done
+    ∙ ap (list_all (λ x. eqb x 0)) (take_all all (take n rest) (omega arith))
     ∙ listed (λ (x : ℕ). eqb x 0) rest n (omega (arith, length-drop (6 + m) b, c.requires))
     ∙ (λ t. all_to (λ (k : ℕ). eqb (get_or-drop (6 + m) b k 0 t) 0) (few t))
     ∙ ap (padding b) c.min-bytes.ensures ∙ clipped b c.word_at.result ∙ ap (padding b) c.word_at.ensures.0

@@ -9,6 +9,7 @@ use Rattle.block_check.specs.Check.{block_bytes, payload_bytes}
 use Rattle.block_layout.specs.Carried.{whole_blocks, block_at, length_in, payload_of, carried, carried_of}
 use Rattle.block_layout.proofs.BlockAt.{length_at}
 use Rattle.block_layout.proofs.Carrying.{length-carried, payload-inside, length-payload, right-at}
+use Rattle.lists.proofs.Fill.{over-whole}
 use Rattle.lists.proofs.Parts.{part-after}
 use Rattle.block_import.proofs.Parts.{block-part, block-length}
 use Rattle.block_import.proofs.store_payloads.Goals as goal
@@ -61,14 +62,14 @@ pub loop-i-init : goal.loop-i-init
 unfolding carried
 loop-i-init c = refl
 
-pub slice_bounds-copy_from_slice-end : goal.slice_bounds-copy_from_slice-end
-slice_bounds-copy_from_slice-end c = omega (arith, (known (goal.at.slice_bounds-copy_from_slice-end c).After-word_at-bytes).inside)
+pub slice_bounds-copy-end : goal.slice_bounds-copy-end
+slice_bounds-copy-end c = omega (arith, (known (goal.at.slice_bounds-copy-end c).After-word_at-bytes).inside)
 
-pub slice_bounds-copy_from_slice-end-in-loop-i : goal.slice_bounds-copy_from_slice-end-in-loop-i
-slice_bounds-copy_from_slice-end-in-loop-i c =
-    omega (arith, (known (goal.at.slice_bounds-copy_from_slice-end-in-loop-i c).After-word_at-bytes).most, block-length c.args.blocks.bytes.now c.loop-i.i (omega arith))
+pub slice_bounds-copy-end-in-loop-i : goal.slice_bounds-copy-end-in-loop-i
+slice_bounds-copy-end-in-loop-i c =
+    omega (arith, (known (goal.at.slice_bounds-copy-end-in-loop-i c).After-word_at-bytes).most, block-length c.args.blocks.bytes.now c.loop-i.i (omega arith))
 
 pub loop-i-preserved : goal.loop-i-preserved
 loop-i-preserved c =
-    more c.args.blocks.bytes.now c.loop-i.out c.args.out.now c.copy_from_slice.new.self c.loop-i.i c.word_at-bytes.result
-    (known (goal.at.loop-i-preserved c).After-word_at-bytes) c.loop-i.invariant c.copy_from_slice.ensures.after
+    more c.args.blocks.bytes.now c.loop-i.out c.args.out.now c.copy.new.to c.loop-i.i c.word_at-bytes.result
+    (known (goal.at.loop-i-preserved c).After-word_at-bytes) c.loop-i.invariant (c.copy.ensures ∙ over-whole _ _ 0 (omega arith))

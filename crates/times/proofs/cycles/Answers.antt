@@ -9,10 +9,10 @@ pub returns-then-edition-eq-EDITION_1992 : goal.returns-then-edition-eq-EDITION_
 returns-then-edition-eq-EDITION_1992 c =
     let a = c.args in
     subst (λ (e : Edition). InCycles e.fraction-bits (a.count % 2 ^ 48) c.cycles.result)
-    (sym (is-1992 a.edition c.if-edition-eq-EDITION_1992.true)) (c.cycles.ensures 20 refl)
+    (sym (is-1992 a.edition c.if-edition-eq-EDITION_1992.true)) (c.cycles.ensures.exactly 20 refl)
 
 pub returns : goal.returns
 returns c =
     let a = c.args in
     subst (λ (e : Edition). InCycles e.fraction-bits (a.count % 2 ^ 48) c.cycles-2.result)
-    (sym (is-1985 a.edition c.if-edition-eq-EDITION_1992.false)) (c.cycles-2.ensures 8 refl)
+    (sym (is-1985 a.edition c.if-edition-eq-EDITION_1992.false)) (c.cycles-2.ensures.exactly 8 refl)

@@ -1,7 +1,0 @@
-use Rattle.std.proofs.Common.{arith}
-use Rattle.std.proofs.lemmas.Int.{to_z-of_z}
-use Rattle.channels.proofs.Sign.{signed-cast}
-use Rattle.channels.proofs.signed.Goals as goal
-
-pub returns : goal.returns
-returns c = grind (arith, to_z-of_z, signed-cast)
