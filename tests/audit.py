@@ -25,12 +25,9 @@ ROOT = pathlib.Path(__file__).resolve().parent.parent
 # What rt says of an edit that it tried; behind the first colon stands what the prover said, if an edit was refused for that.
 TRIED = re.compile(r"^rt: must-fail (\w+/[\w.-]+)\.edit: (.*)", re.M)
 REFUSED = "refused, as it must be"
-# An error, or a fact that the prover's own search did not prove; of a type's invariant, where it found values at which that is false. An
-# error that says "was not admitted" only follows from another refusal.
-REFUSAL = re.compile(
-    r"(?!.* was not admitted)(?:\./)?(\w+)/.*: error: .*|note: .*: it is not proved that .*"
-    r"|note: .*: `search` found no proof \(`invariant_of-\w+`\); the facts known there allow values at which this goal is false"
-)
+# An error, or a fact that the prover's own search did not prove. An error that says "was not admitted" only follows from another
+# refusal.
+REFUSAL = re.compile(r"(?!.* was not admitted)(?:\./)?(\w+)/.*: error: .*|note: .*: it is not proved that .*")
 # A fact that no answer of the function's and no search proves, at a goal by its name. Where rt found values at which it is false, the
 # line goes on with "the facts known there allow values ..".
 OPEN = re.compile(r"note: (src/[\w/]+\.rt):(\d+):\d+: it is not proved that .*?\(`([^`]+)`\)(.*)")
